@@ -4,3 +4,10 @@ pub mod Sets
 pub mod Products
 pub mod Rows
 pub mod Partitions
+pub mod Refusals
+pub mod Outcomes
+pub mod Groups
+pub mod Files
+pub mod Show
+pub mod Worked
+pub mod Samples

@@ -1,0 +1,86 @@
+-- 01's entries worked by hand, as one theorem of the definitions.
+use mathlib.Core.Path.{_≡_, refl}
+use mathlib.Core.Bool.{_&&_}
+use mathlib.Core.List.{List, [], _∷_, map, flatMap}
+use Prim.Native.Nat.{ℕ, _+_}
+use lib.Bits.{bitOr, bitXor}
+use lib.Count.{ones}
+use Rattle.definitions.specs.Sums.{sum, listSum, count, largest, tabulate, keep, at}
+use Rattle.definitions.specs.Sets.{inside, subsets}
+use Rattle.definitions.specs.Products.{residues, subsetSum, pairSum, subsetTable, unionTable, xorTable, degree, degreeBound}
+use Rattle.definitions.specs.Rows.{choose, binomialSum, binomialRow}
+use Rattle.definitions.specs.Partitions.{partitions, blockProduct, compositionSum, compositionTable, exponentialTable, allBelow, IsLogarithm, IsInverse}
+
+-- a call with its inputs and what it gives
+pub data Case : Type 0 where
+  subset union xor : (n m : ℕ) (A B H : List ℕ) → Case
+  inverse exponential logarithm : (n m : ℕ) (A H : List ℕ) → Case
+  composition : (n m : ℕ) (A f H : List ℕ) → Case
+  binomial : (n m : ℕ) (f g h : List ℕ) → Case
+  ceiling : (n : ℕ) (A B : List ℕ) (c : ℕ) → Case
+
+-- what the definitions say of it
+abbrev pub Holds : Case → Type 0
+Holds (subset n m A B H) = subsetTable n m A B ≡ H
+Holds (union n m A B H) = unionTable n m A B ≡ H
+Holds (xor n m A B H) = xorTable n m A B ≡ H
+Holds (inverse n m A H) = IsInverse n m A H
+Holds (exponential n m A H) = exponentialTable n m A ≡ H
+Holds (logarithm n m E H) = IsLogarithm n m E H
+Holds (composition n m A f H) = compositionTable n m f A ≡ H
+Holds (binomial n m f g h) = binomialRow n m f g ≡ h
+Holds (ceiling n A B c) = degreeBound n A B ≡ c
+
+-- every case of a list holds
+abbrev pub AllHold : List Case → Type 0
+AllHold [] = Unit {0}
+AllHold (c ∷ cs) = Holds c × AllHold cs
+
+abbrev pub P : List ℕ
+P = 1 ∷ 2 ∷ 3 ∷ 4 ∷ []
+
+abbrev pub Q : List ℕ
+Q = 5 ∷ 6 ∷ 7 ∷ 8 ∷ []
+
+abbrev pub R : List ℕ
+R = 0 ∷ 2 ∷ 3 ∷ 4 ∷ []
+
+-- 01's twelve, in its order; the last has a table and a ceiling
+abbrev pub cases : List Case
+cases =
+    subset 2 101 P Q (5 ∷ 16 ∷ 22 ∷ 60 ∷ [])
+    ∷ union 2 101 P Q (5 ∷ 28 ∷ 43 ∷ 83 ∷ [])
+    ∷ xor 2 101 P Q (70 ∷ 68 ∷ 62 ∷ 60 ∷ [])
+    ∷ inverse 2 101 P (1 ∷ 99 ∷ 98 ∷ 8 ∷ [])
+    ∷ exponential 2 101 R (1 ∷ 2 ∷ 3 ∷ 10 ∷ [])
+    ∷ logarithm 2 101 (1 ∷ 2 ∷ 3 ∷ 10 ∷ []) R
+    ∷ composition 2 101 R (1 ∷ 0 ∷ 5 ∷ []) (1 ∷ 0 ∷ 0 ∷ 30 ∷ [])
+    ∷ binomial 2 101 (1 ∷ 0 ∷ 5 ∷ []) (1 ∷ 1 ∷ 1 ∷ []) (1 ∷ 1 ∷ 6 ∷ [])
+    ∷ exponential 3 101 (0 ∷ 1 ∷ 1 ∷ 1 ∷ 1 ∷ 1 ∷ 1 ∷ 1 ∷ []) (1 ∷ 1 ∷ 1 ∷ 2 ∷ 1 ∷ 2 ∷ 2 ∷ 5 ∷ [])
+    ∷ exponential 2 2 (0 ∷ 1 ∷ 1 ∷ 1 ∷ []) (1 ∷ 1 ∷ 1 ∷ 0 ∷ [])
+    ∷ subset 0 5 (3 ∷ []) (4 ∷ []) (2 ∷ [])
+    ∷ subset 2 101 (0 ∷ 2 ∷ 0 ∷ 0 ∷ []) (0 ∷ 3 ∷ 0 ∷ 0 ∷ []) (0 ∷ 0 ∷ 0 ∷ 0 ∷ [])
+    ∷ ceiling 2 (0 ∷ 2 ∷ 0 ∷ 0 ∷ []) (0 ∷ 3 ∷ 0 ∷ 0 ∷ []) 2
+    ∷ []
+
+pub worked : AllHold cases
+unfolding residues tabulate subsetSum pairSum sum inside binomialRow binomialSum choose count compositionSum listSum partitions subsets keep blockProduct allBelow degree degreeBound largest flatMap ones
+worked = (
+  refl,
+  (
+    refl,
+    (
+      refl,
+      (
+        record { long = refl; below = refl; product = refl },
+        (
+          refl,
+          (
+            record { long = refl; below = refl; first = refl; exponential = refl },
+            (refl, (refl, (refl, (refl, (refl, (refl, (refl, tt))))))),
+          ),
+        ),
+      ),
+    ),
+  ),
+)
