@@ -1,5 +1,6 @@
 -- 01's words of refusal, the tests behind them, and the number of each call on tables and rows: 0 if it is accepted, else
 -- the lowest word that applies. Also what a call leaves in the memory that it was lent.
+use mathlib.Core.Path.{_≡_}
 use mathlib.Core.Bool.{Bool, true, false, not}
 use mathlib.Core.List.{List, [], _∷_, _++_}
 use Prim.Native.Nat.{ℕ, zero, suc, _+_, _%_, _^_}
@@ -59,6 +60,14 @@ sharedStartWord m a = wordIf (sharesDivisor m (at a 0)) 6
 -- 7, halving: m even
 abbrev pub halvingWord : ℕ → ℕ
 halvingWord m = wordIf (eqb (m % 2) 0) 7
+
+-- ---- 01's *accepted*: none of words 1, 2, 3 and 5 applies to n, m or the table, or the row
+
+abbrev pub AcceptedTable : ℕ → ℕ → List ℕ → Type 0
+AcceptedTable n m a = firstWord (panelWord n ∷ modulusWord m ∷ tableWord n (length a) ∷ entryWord m a ∷ []) ≡ 0
+
+abbrev pub AcceptedRow : ℕ → ℕ → List ℕ → Type 0
+AcceptedRow n m f = firstWord (panelWord n ∷ modulusWord m ∷ rowWord n (length f) ∷ entryWord m f ∷ []) ≡ 0
 
 -- ---- the number of each call; r and p are the lengths of its result and of its pad
 
