@@ -4,3 +4,11 @@ pub mod Lists
 pub mod Codes
 pub mod Remainders
 pub mod Entries
+pub mod Semiring
+pub mod Halves
+pub mod Product
+pub mod Composition
+pub mod Binomial
+pub mod Congruence
+pub mod Series
+pub mod Tables

@@ -1,0 +1,67 @@
+-- The laws of set power series on tables, lists of 2 ^ n remainders.
+--   at-mod                                     what stands in a table of remainders, modulo m
+--   product-comm, product-assoc, product-unit, product-of-sum    the subset product
+--   exponential-of-sum                         exp (A + B) = exp A · exp B
+--   composition-of-product                     composition with a binomial product of rows
+--   product-residues, composition-residues     remainders taken early do not matter
+use mathlib.Core.Path.{_≡_, refl, sym, ap, _∙_}
+use mathlib.Core.List.{List}
+use Prim.Native.Nat.{ℕ, _+_, _%_, _^_, _<_, _≤_}
+use native.Mathlib.Nat.{mod-mod}
+use native.Mathlib.Omega.{arith}
+use lib.ListN.{length}
+use Rattle.definitions.specs.Sums.{tabulate, at}
+use Rattle.definitions.specs.Products.{residues, sumTable, subsetSum, subsetTable}
+use Rattle.definitions.specs.Rows.{binomialSum, binomialRow}
+use Rattle.definitions.specs.Partitions.{compositionSum, compositionTable, exponentialTable, allOnes, unit}
+use Rattle.theory.specs.Lists.{at-tabulate, at-residues, residues-ext, residues-self}
+use Rattle.theory.specs.Remainders.{mod-add}
+use Rattle.theory.specs.Halves.{Row}
+use Rattle.theory.specs.Series.{subset-comm, subset-assoc, subset-plus, subset-unit, exponential-plus, composition-binomial, subset-mod, composition-mod}
+
+module _ (n m : ℕ) where
+  pub at-mod : (f : ℕ → ℕ) (S : ℕ) → S < 2 ^ n → at (residues n m f) S % m ≡ f S % m
+  at-mod f S h = ap (λ (k : ℕ). k % m) (at-residues n m f S h) ∙ mod-mod (f S) m
+
+  pub product-residues : (A B : ℕ → ℕ) → subsetTable n m (residues n m A) (residues n m B) ≡ residues n m (subsetSum n A B)
+  product-residues A B = residues-ext n m _ _ (subset-mod n m _ _ A B (at-mod A) (at-mod B))
+
+  pub composition-residues : (f : Row) (A : ℕ → ℕ) → residues n m (compositionSum n f (at (residues n m A))) ≡ residues n m (compositionSum n f A)
+  composition-residues f A = residues-ext n m _ _ (composition-mod n m f f _ A (λ k h. refl) (at-mod A))
+
+  -- equal numbers have equal remainders
+  same : {A B : ℕ → ℕ} → ((S : ℕ) → S < 2 ^ n → A S ≡ B S) → residues n m A ≡ residues n m B
+  same h = residues-ext n m _ _ (λ S k. ap (λ (x : ℕ). x % m) (h S k))
+
+  pub product-comm : (A B : List ℕ) → subsetTable n m A B ≡ subsetTable n m B A
+  product-comm A B = same (subset-comm n (at A) (at B))
+
+  pub product-assoc : (A B C : List ℕ) → subsetTable n m (subsetTable n m A B) C ≡ subsetTable n m A (subsetTable n m B C)
+  product-assoc A B C =
+      residues-ext n m _ _ (subset-mod n m _ _ (subsetSum n (at A) (at B)) (at C) (at-mod _) (λ S h. refl))
+      ∙ same (subset-assoc n (at A) (at B) (at C))
+      ∙ sym (residues-ext n m _ _ (subset-mod n m _ _ (at A) (subsetSum n (at B) (at C)) (λ S h. refl) (at-mod _)))
+
+  pub product-unit : (A : List ℕ) → length A ≡ 2 ^ n → ((S : ℕ) → S < 2 ^ n → at A S < m) → subsetTable n m A (tabulate (2 ^ n) unit) ≡ A
+  product-unit A l b =
+      residues-ext n m _ _ (subset-mod n m _ _ (at A) unit (λ S h. refl) (λ S h. ap (λ (k : ℕ). k % m) (at-tabulate (2 ^ n) unit S h)))
+      ∙ same (subset-unit n (at A)) ∙ residues-self n m A l b
+
+  pub product-of-sum : (A B C : List ℕ) → subsetTable n m A (sumTable n m B C) ≡ sumTable n m (subsetTable n m A B) (subsetTable n m A C)
+  product-of-sum A B C =
+      residues-ext n m _ _ (subset-mod n m _ _ (at A) (λ S. at B S + at C S) (λ S h. refl) (at-mod _))
+      ∙ same (subset-plus n (at A) (at B) (at C))
+      ∙ sym (residues-ext n m _ _ (λ S h. mod-add m _ _ _ _ (at-mod (subsetSum n (at A) (at B)) S h) (at-mod (subsetSum n (at A) (at C)) S h)))
+
+  pub exponential-of-sum : (A B : List ℕ) → exponentialTable n m (sumTable n m A B) ≡ subsetTable n m (exponentialTable n m A) (exponentialTable n m B)
+  exponential-of-sum A B =
+      composition-residues allOnes _ ∙ same (exponential-plus n (at A) (at B)) ∙ sym (product-residues _ _)
+
+  at-binomial : (f g : List ℕ) (k : ℕ) → k ≤ n → at (binomialRow n m f g) k % m ≡ binomialSum (at f) (at g) k % m
+  unfolding binomialRow
+  at-binomial f g k h = ap (λ (x : ℕ). x % m) (at-tabulate (n + 1) _ k (omega arith)) ∙ mod-mod _ m
+
+  pub composition-of-product : (f g A : List ℕ) → compositionTable n m (binomialRow n m f g) A ≡ subsetTable n m (compositionTable n m f A) (compositionTable n m g A)
+  composition-of-product f g A =
+      residues-ext n m _ _ (composition-mod n m _ (binomialSum (at f) (at g)) (at A) (at A) (at-binomial f g) (λ S h. refl))
+      ∙ same (composition-binomial n (at f) (at g) (at A)) ∙ sym (product-residues _ _)
