@@ -1,6 +1,7 @@
 -- Composition sums over the partitions; on tables by halves it is `comp`.
 --   partitions-lo, partitions-hi      the partitions of a set without the top control, and with it
 --   composition-lo, composition-hi    the same of the sum over them
+--   composition-empty                 at the empty set
 --   tab-comp                          on whole tables
 use mathlib.Core.Path.{_≡_, sym, ap, _∙_, fun-ext}
 use mathlib.Core.List.{List, _∷_, map, flatMap}
@@ -9,6 +10,7 @@ use native.Mathlib.Nat.{mul-left-comm}
 use native.Mathlib.Omega.{arith}
 use lib.ListN.{length}
 use borrow.Author.Tests.{lt-ltb, le-ltb}
+use lib.Pow.{pow-pos}
 use Rattle.definitions.specs.Sums.{listSum}
 use Rattle.definitions.specs.Sets.{subsets}
 use Rattle.definitions.specs.Products.{subsetSum}
@@ -47,6 +49,12 @@ composition-hi n f A R =
 pub composition-lo : (n : ℕ) (f : Row) (A : ℕ → ℕ) (S : ℕ) → S < 2 ^ n → compositionSum (suc n) f A S ≡ compositionSum n f A S
 unfolding compositionSum
 composition-lo n f A S h = rw (partitions-lo n S h)
+
+-- at the empty set, with its one partition
+pub composition-empty : (n : ℕ) (f : Row) (A : ℕ → ℕ) → compositionSum n f A 0 ≡ f 0
+unfolding compositionSum partitions listSum blockProduct
+composition-empty zero f A = omega arith
+composition-empty (suc n) f A = composition-lo n f A 0 (pow-pos n) ∙ composition-empty n f A
 
 pub tab-comp : (n : ℕ) (f : Row) (A : ℕ → ℕ) → comp n f (tab n A) ≡ tab n (compositionSum n f A)
 unfolding comp tab compositionSum partitions listSum blockProduct

@@ -1,6 +1,7 @@
 -- Entries below m: `allBelow m A` says that each entry of A is below m.
 --   below-at, at-below     the test, entry by entry
 --   below-anywhere         past the end too
+--   below-positive         a table's modulus is not 0
 --   below-residues         remainders are below m
 use mathlib.Core.Path.{_≡_, refl}
 use mathlib.Core.Bool.{true}
@@ -11,6 +12,7 @@ use native.Mathlib.Nat.{mod-lt}
 use native.Mathlib.Omega.{arith}
 use lib.Dec.{ltb}
 use lib.ListN.{length, List·getD-eq-default}
+use lib.Pow.{pow-pos}
 use borrow.Author.Tests.{ltb-true, lt-ltb}
 use Rattle.definitions.specs.Sums.{at}
 use Rattle.definitions.specs.Products.{residues}
@@ -32,6 +34,10 @@ at-below m (x ∷ A) h = rw (lt-ltb x m (h 0 (omega arith))) (at-below m A (λ i
 pub below-residues : (n m : ℕ) (f : ℕ → ℕ) → 0 < m → allBelow m (residues n m f) ≡ true
 below-residues n m f pos = at-below m (residues n m f)
     (λ i h. let k : i < 2 ^ n = omega (arith, length-residues n m f) in rw (at-residues n m f i k) (mod-lt (f i) pos))
+
+-- a table has an entry, so m is not 0
+pub below-positive : (n m : ℕ) (A : List ℕ) → length A ≡ 2 ^ n → allBelow m A ≡ true → 0 < m
+below-positive n m A l b = omega (arith, below-at m A b 0 (omega (arith, pow-pos n)))
 
 -- below m at any place, past the end too
 pub below-anywhere : (m : ℕ) (A : List ℕ) → 0 < m → allBelow m A ≡ true → (i : ℕ) → at A i < m

@@ -12,3 +12,7 @@ pub mod Binomial
 pub mod Congruence
 pub mod Series
 pub mod Tables
+pub mod Rows
+pub mod Divisors
+pub mod Inverse
+pub mod Logarithm

@@ -3,13 +3,15 @@
 --   product-comm, product-assoc, product-unit, product-of-sum    the subset product
 --   exponential-of-sum                         exp (A + B) = exp A · exp B
 --   composition-of-product                     composition with a binomial product of rows
---   product-residues, composition-residues     remainders taken early do not matter
-use mathlib.Core.Path.{_≡_, refl, sym, ap, _∙_}
+--   product-residues, composition-residues     remainders taken early do not matter; composition-row: in the row neither
+--   exponential-first, sum-first               first entries
+use mathlib.Core.Path.{_≡_, refl, sym, ap, ap₂, _∙_}
 use mathlib.Core.List.{List}
 use Prim.Native.Nat.{ℕ, _+_, _%_, _^_, _<_, _≤_}
-use native.Mathlib.Nat.{mod-mod}
+use native.Mathlib.Nat.{mod-mod, mod-eq-of-lt, zero-mod}
 use native.Mathlib.Omega.{arith}
 use lib.ListN.{length}
+use lib.Pow.{pow-pos}
 use Rattle.definitions.specs.Sums.{tabulate, at}
 use Rattle.definitions.specs.Products.{residues, sumTable, subsetSum, subsetTable}
 use Rattle.definitions.specs.Rows.{binomialSum, binomialRow}
@@ -17,6 +19,7 @@ use Rattle.definitions.specs.Partitions.{compositionSum, compositionTable, expo
 use Rattle.theory.specs.Lists.{at-tabulate, at-residues, residues-ext, residues-self}
 use Rattle.theory.specs.Remainders.{mod-add}
 use Rattle.theory.specs.Halves.{Row}
+use Rattle.theory.specs.Composition.{composition-empty}
 use Rattle.theory.specs.Series.{subset-comm, subset-assoc, subset-plus, subset-unit, exponential-plus, composition-binomial, subset-mod, composition-mod}
 
 module _ (n m : ℕ) where
@@ -57,11 +60,22 @@ module _ (n m : ℕ) where
   exponential-of-sum A B =
       composition-residues allOnes _ ∙ same (exponential-plus n (at A) (at B)) ∙ sym (product-residues _ _)
 
-  at-binomial : (f g : List ℕ) (k : ℕ) → k ≤ n → at (binomialRow n m f g) k % m ≡ binomialSum (at f) (at g) k % m
-  unfolding binomialRow
-  at-binomial f g k h = ap (λ (x : ℕ). x % m) (at-tabulate (n + 1) _ k (omega arith)) ∙ mod-mod _ m
+  -- a row of remainders does for the row
+  pub composition-row : (f : Row) (A : List ℕ) → compositionTable n m (tabulate (n + 1) (λ k. f k % m)) A ≡ residues n m (compositionSum n f (at A))
+  composition-row f A = residues-ext n m _ _ (composition-mod n m _ f (at A) (at A)
+      (λ k h. ap (λ (x : ℕ). x % m) (at-tabulate (n + 1) _ k (omega arith)) ∙ mod-mod _ m) (λ S h. refl))
 
   pub composition-of-product : (f g A : List ℕ) → compositionTable n m (binomialRow n m f g) A ≡ subsetTable n m (compositionTable n m f A) (compositionTable n m g A)
+  unfolding binomialRow
   composition-of-product f g A =
-      residues-ext n m _ _ (composition-mod n m _ (binomialSum (at f) (at g)) (at A) (at A) (at-binomial f g) (λ S h. refl))
+      composition-row (binomialSum (at f) (at g)) A
       ∙ same (composition-binomial n (at f) (at g) (at A)) ∙ sym (product-residues _ _)
+
+  -- ---- first entries
+
+  pub exponential-first : 2 ≤ m → (A : List ℕ) → at (exponentialTable n m A) 0 ≡ 1
+  exponential-first two A =
+      at-residues n m _ 0 (pow-pos n) ∙ ap (λ (k : ℕ). k % m) (composition-empty n allOnes (at A)) ∙ mod-eq-of-lt two
+
+  pub sum-first : (A B : List ℕ) → at A 0 ≡ 0 → at B 0 ≡ 0 → at (sumTable n m A B) 0 ≡ 0
+  sum-first A B a b = at-residues n m _ 0 (pow-pos n) ∙ ap₂ (λ (x y : ℕ). (x + y) % m) a b ∙ zero-mod m
