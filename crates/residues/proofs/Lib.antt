@@ -1,0 +1,3 @@
+pub mod Reduce
+pub mod Fold
+pub mod Euclid

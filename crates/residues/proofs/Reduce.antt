@@ -1,0 +1,26 @@
+-- How one comparison reduces a sum or a difference, and how large a product of two residues is.
+use mathlib.Core.Path.{_≡_, sym, _∙_, ap}
+use Prim.Native.Nat.{ℕ, _-_, _*_, _%_, _^_, _<_, _≤_}
+use native.Mathlib.Nat.{mod-eq-of-lt, mod-eq-sub-mod, mul-le-mul, mod-lt}
+use native.Mathlib.Omega.{arith}
+use mir.Val.{Fits}
+use mir.Syntax.{w32}
+use Rattle.definitions.specs.Limits.{largestModulus}
+use Rattle.residues.specs.Moduli.{Below, Residue}
+
+pub reduced : {x m : ℕ} → x < m → Residue m x x
+reduced l = record { same = sym (mod-eq-of-lt l); below = l }
+
+-- x - m for x
+pub once : (x m : ℕ) {r : ℕ} → m ≤ x → r ≡ x - m → r < m → Residue m x r
+once x m h e l = record { same = sym (mod-eq-of-lt l) ∙ ap (λ (k : ℕ). k % m) e ∙ sym (mod-eq-sub-mod h); below = l }
+
+pub fits-residue : (x : ℕ) {m : ℕ} → 0 < m → m ≤ largestModulus → Fits w32 (x % m)
+fits-residue x {m} pos top = let h : x % m < m = mod-lt x pos in record { fits = omega arith }
+
+pub product-below : {m a b : ℕ} → Below m a b → m ≤ largestModulus → a * b < 2 ^ 62
+product-below {m} {a} {b} h top =
+    let x : a ≤ 2147483646 = omega arith in
+    let y : b ≤ 2147483646 = omega arith in
+    let p : a * b ≤ 2147483646 * 2147483646 = mul-le-mul x y in
+    omega arith

@@ -1,0 +1,4 @@
+pub mod Congruence
+pub mod Moduli
+pub mod Accumulated
+pub mod Reciprocals

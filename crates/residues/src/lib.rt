@@ -1,0 +1,184 @@
+// Residues: numbers modulo m. The modulus with its limits, sum, difference and product of two residues, sums of products
+// that are divided once, and reciprocals. What bounds the numbers inside is seen in this crate alone.
+ghost use mathlib.Core.Path.{_≡_};
+ghost use Prim.Native.Nat.{_+_, _-_, _*_, _<_};
+ghost use Rattle.residues.specs.Moduli.{modulusOf, Valid, Below, Residue};
+ghost use Rattle.residues.specs.Accumulated.{held, Sound, Started, Added, foldLimit, Folded};
+ghost use Rattle.residues.specs.Reciprocals.{ReciprocalIs, InRange, Next};
+
+// Only `Modulus::new` makes one.
+pub struct Modulus {
+    value: u32,
+    // the largest multiple of the value that is at most FOLD
+    top: u64,
+}
+
+pub enum ModulusAnswer {
+    Modulus(Modulus),
+    // 01's number for a refused modulus
+    Refused(u32),
+}
+
+// A sum of products, up to multiples of the modulus.
+pub struct Accumulator {
+    sum: u64,
+}
+
+pub enum Reciprocal {
+    Of(u32),
+    // a divisor above 1 of the number and of the modulus
+    CommonDivisor(u32),
+}
+
+// Two remainders of Euclid's algorithm for m and a, and for each a residue which times a gives it modulo m.
+struct Remainders {
+    larger: u32,
+    smaller: u32,
+    of_larger: u32,
+    of_smaller: u32,
+}
+
+// 2 to the 63.
+const FOLD: u64 = 9223372036854775808;
+
+impl Modulus {
+    pub const LOWEST: u32 = 2;
+
+    pub const LARGEST: u32 = 2147483647;
+
+    pub fn new(m: u32) -> ModulusAnswer
+        ensures { λ r. ⌜ r ≡ modulusOf m ⌝ }
+    {
+        if m < Modulus::LOWEST {
+            return ModulusAnswer::Refused(2);
+        }
+        if Modulus::LARGEST < m {
+            return ModulusAnswer::Refused(2);
+        }
+        let wide = m as u64;
+        ModulusAnswer::Modulus(Modulus {
+            value: m,
+            top: FOLD / wide * wide,
+        })
+    }
+
+    pub fn value(self) -> u32
+        ensures { λ r. ⌜ r ≡ self .value ⌝ }
+    {
+        self.value
+    }
+
+    pub fn reduce(self, x: u64) -> u32
+        requires { ⌜ Valid self ⌝ }
+        ensures { λ r. ⌜ Residue (self .value) x r ⌝ }
+    {
+        let m = self.value as u64;
+        (x % m) as u32
+    }
+
+    // The sum is compared before it is formed, so that it fits under every modulus of 32 bits.
+    pub fn add(self, a: u32, b: u32) -> u32
+        requires { ⌜ Valid self ⌝ }
+        requires { ⌜ Below (self .value) a b ⌝ }
+        ensures { λ r. ⌜ Residue (self .value) (a + b) r ⌝ }
+    {
+        let lacking = self.value - b;
+        if a >= lacking { a - lacking } else { a + b }
+    }
+
+    pub fn subtract(self, a: u32, b: u32) -> u32
+        requires { ⌜ Valid self ⌝ }
+        requires { ⌜ Below (self .value) a b ⌝ }
+        ensures { λ r. ⌜ Residue (self .value) (a + (self .value - b)) r ⌝ }
+    {
+        let m = self.value;
+        if a >= b { a - b } else { a + (m - b) }
+    }
+
+    pub fn multiply(self, a: u32, b: u32) -> u32
+        requires { ⌜ Valid self ⌝ }
+        requires { ⌜ Below (self .value) a b ⌝ }
+        ensures { λ r. ⌜ Residue (self .value) (a * b) r ⌝ }
+    {
+        let product = (a as u64) * (b as u64);
+        self.reduce(product)
+    }
+
+    // Takes a multiple of the modulus off a sum that has reached FOLD. There is no branch.
+    fn fold(self, sum: u64) -> u64
+        requires { ⌜ Valid self ⌝ }
+        requires { ⌜ sum < foldLimit ⌝ }
+        ensures { λ r. ⌜ Folded self sum r ⌝ }
+    {
+        sum - sum / FOLD * self.top
+    }
+
+    // The residue that times a is 1, or why there is none: Euclid's algorithm.
+    pub fn reciprocal(self, a: u32) -> Reciprocal
+        requires { ⌜ Valid self ⌝ }
+        requires { ⌜ a < self .value ⌝ }
+        ensures { λ r. ⌜ ReciprocalIs (self .value) a r ⌝ }
+    {
+        let mut pair = Remainders {
+            larger: self.value,
+            smaller: a,
+            of_larger: 0,
+            of_smaller: 1,
+        };
+        while 1 < pair.smaller {
+            pair = pair.next(self);
+        }
+        if pair.smaller == 1 {
+            Reciprocal::Of(pair.of_smaller)
+        } else {
+            Reciprocal::CommonDivisor(pair.larger)
+        }
+    }
+}
+
+impl Remainders {
+    // The quotient is below m, since the smaller remainder is above 1.
+    fn next(self, modulus: Modulus) -> Remainders
+        requires { ⌜ Valid modulus ⌝ }
+        requires { ⌜ 1 < self .smaller ⌝ }
+        requires { ⌜ InRange (modulus .value) self ⌝ }
+        ensures { λ r. ⌜ Next (modulus .value) self r ⌝ }
+    {
+        let quotient = self.larger / self.smaller;
+        let taken = modulus.multiply(quotient, self.of_smaller);
+        Remainders {
+            larger: self.smaller,
+            smaller: self.larger % self.smaller,
+            of_larger: self.of_smaller,
+            of_smaller: modulus.subtract(self.of_larger, taken),
+        }
+    }
+}
+
+impl Accumulator {
+    pub fn start() -> Accumulator
+        ensures { λ r. ⌜ Started r ⌝ }
+    {
+        Accumulator { sum: 0 }
+    }
+
+    pub fn add_product(self, modulus: Modulus, a: u32, b: u32) -> Accumulator
+        requires { ⌜ Valid modulus ⌝ }
+        requires { ⌜ Sound modulus self ⌝ }
+        requires { ⌜ Below (modulus .value) a b ⌝ }
+        ensures { λ r. ⌜ Added modulus self a b r ⌝ }
+    {
+        let sum = self.sum + (a as u64) * (b as u64);
+        Accumulator {
+            sum: modulus.fold(sum),
+        }
+    }
+
+    pub fn residue(self, modulus: Modulus) -> u32
+        requires { ⌜ Valid modulus ⌝ }
+        requires { ⌜ Sound modulus self ⌝ }
+        ensures { λ r. ⌜ Residue (modulus .value) (held self) r ⌝ }
+    {
+        modulus.reduce(self.sum)
+    }
+}
