@@ -39,7 +39,7 @@ module _ (m : ℕ) where
   add-cancel pos (suc n) x y z w p e = both
       (add-cancel pos n _ _ _ _ (ap (λ t. t .0) p) (ap (λ t. t .0) e)) (add-cancel pos n _ _ _ _ (ap (λ t. t .1) p) (ap (λ t. t .1) e))
 
-  tab-red : (n : ℕ) (A : ℕ → ℕ) → red n (tab n A) ≡ tab n (λ c. A c % m)
+  pub tab-red : (n : ℕ) (A : ℕ → ℕ) → red n (tab n A) ≡ tab n (λ c. A c % m)
   unfolding red tab
   tab-red zero A = refl
   tab-red (suc n) A = both (tab-red n A) (tab-red n _)

@@ -16,3 +16,8 @@ pub mod Rows
 pub mod Divisors
 pub mod Inverse
 pub mod Logarithm
+pub mod Degree
+pub mod Transform
+pub mod Pairs
+pub mod Passes
+pub mod Convolution

@@ -1,17 +1,17 @@
 -- Lists by a rule for their entries, and tables of remainders.
---   tabulate   length, at, ext, self, of (a list that agrees with a rule at each place)
+--   tabulate   length, at, ext, append, self, of (a list that agrees with a rule at each place)
 --   filled     a list whose first entries are set by a rule: what a loop that sets one entry a turn has so far
---              (filled-none before it, filled-more and turn for one turn, part, filled-all and whole at its end)
+--              (filled-none before it, filled-more and turn for one turn, filled-block for a block, part, filled-all and whole at its end)
 --   residues   length, at, ext, self, of
 use mathlib.Core.Path.{_≡_, refl, sym, _∙_, ap, ap₂}
 use mathlib.Core.List.{List, [], _∷_, _++_, append-assoc, append-nil}
 use mathlib.Core.Logic.{_⊎_, inl, inr}
 use Prim.Native.Nat.{ℕ, zero, suc, _+_, _%_, _^_, _<_, _≤_}
 use native.Mathlib.Numerals.{add-one}
-use native.Mathlib.Nat.{le-refl, not-suc-le-zero, le-of-suc-le-suc, eq-or-lt-of-le, mod-eq-of-lt}
+use native.Mathlib.Nat.{add-zero, add-suc, le-refl, not-suc-le-zero, le-of-suc-le-suc, eq-or-lt-of-le, mod-eq-of-lt}
 use native.Mathlib.Omega.{arith}
-use lib.ListN.{length, getD, drop, set, length-append, length-drop, drop-of-length-le, List·getD-append}
-use lib.Seq.{drop-cons, set-at, getD-at, ext-getD}
+use lib.ListN.{length, getD, take, drop, set, length-append, length-drop, drop-of-length-le, List·getD-append}
+use lib.Seq.{drop-cons, set-at, take-at, drop-at, drop-drop, getD-at, getD-drop, getD-append-add, ext-getD}
 use Rattle.definitions.specs.Sums.{tabulate, at}
 use Rattle.definitions.specs.Products.{residues}
 
@@ -44,6 +44,12 @@ tabulate-of n A f l h = ext-getD 0 A (tabulate n f) (l ∙ sym (length-tabulate 
 pub tabulate-self : (n : ℕ) (A : List ℕ) → length A ≡ n → tabulate n (at A) ≡ A
 tabulate-self n A l = sym (tabulate-of n A (at A) l (λ i h. refl))
 
+pub tabulate-append : (a b : ℕ) (f : ℕ → ℕ) → tabulate (a + b) f ≡ tabulate a f ++ tabulate b (λ i. f (a + i))
+unfolding tabulate
+tabulate-append a zero f = rw (add-zero a) (sym (append-nil (tabulate a f)))
+tabulate-append a (suc b) f =
+    rw (add-suc a b, tabulate-append a b f) (append-assoc (tabulate a f) (tabulate b (λ i. f (a + i))) (f (a + b) ∷ []))
+
 -- ---- a list that a loop fills
 
 -- r with its first n entries by the rule f
@@ -67,6 +73,21 @@ filled-all f i r h = rw (drop-of-length-le r h) (append-nil (tabulate i f))
 pub length-filled : (f : ℕ → ℕ) (i : ℕ) (r : List ℕ) → i ≤ length r → length (filled f i r) ≡ length r
 unfolding filled
 length-filled f i r h = simp (length-append, length-tabulate, length-drop) (omega arith)
+
+-- a block of w entries at once
+pub filled-block : (f : ℕ → ℕ) (i w : ℕ) (r : List ℕ) → take i (filled f i r) ++ (tabulate w (λ t. f (i + t)) ++ drop (i + w) (filled f i r)) ≡ filled f (i + w) r
+unfolding filled
+filled-block f i w r =
+    let l : length (tabulate i f) ≡ i = length-tabulate i f in
+    rw (take-at (tabulate i f) (drop i r) i l, ← drop-drop w i (tabulate i f ++ drop i r), drop-at (tabulate i f) (drop i r) i l, drop-drop w i r, tabulate-append i w f)
+    (sym (append-assoc (tabulate i f) (tabulate w (λ t. f (i + t))) (drop (i + w) r)))
+
+-- the places that are not yet filled are as they were
+pub at-filled : (f : ℕ → ℕ) (i : ℕ) (r : List ℕ) (j : ℕ) → at (filled f i r) (i + j) ≡ at r (i + j)
+unfolding filled
+at-filled f i r j =
+    ap (λ (k : ℕ). at (tabulate i f ++ drop i r) (k + j)) (sym (length-tabulate i f))
+    ∙ getD-append-add (tabulate i f) (drop i r) j 0 ∙ getD-drop i r j 0
 
 -- the same for a list l that a loop has so far
 pub turn : (f : ℕ → ℕ) (i : ℕ) (r : List ℕ) {l : List ℕ} {v : ℕ} → l ≡ filled f i r → v ≡ f i → i < length r → set l i v ≡ filled f (i + 1) r

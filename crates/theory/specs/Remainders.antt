@@ -1,11 +1,12 @@
 -- Remainders by m of sums, products and differences.
 --   mod-add, mod-mul       equal remainders give equal remainders
 --   mod-sub                what is left of y + x after y is taken away round through m
---   neg-add, minus-one     what a program subtracts from 0; m - 1 for -1
+--   neg-add, minus-one     what a program subtracts from 0; m - 1 for -1 (minus-times: in a difference)
 --   mod-cancel             equal summands cancel
+--   half-power, half-residue    for odd m, the inverse of 2 ^ n
 use mathlib.Core.Path.{_≡_, refl, sym, ap, ap₂, _∙_}
-use Prim.Native.Nat.{ℕ, suc, _+_, _-_, _*_, _/_, _%_, _<_}
-use native.Mathlib.Nat.{add-mod, mod-add-mod, mod-lt, div-add-mod', mul-add-mod-self-right, mul-mod-left, zero-mod, mul-comm, zero-add}
+use Prim.Native.Nat.{ℕ, zero, suc, _+_, _-_, _*_, _/_, _%_, _^_, _<_}
+use native.Mathlib.Nat.{add-mod, mod-add-mod, mod-lt, div-add-mod', mul-add-mod-self-right, mul-mod-left, zero-mod, mul-comm, zero-add, pow-zero, pow-suc}
 use native.Mathlib.Omega.{arith}
 
 pub mod-add : (m a b c d : ℕ) → a % m ≡ c % m → b % m ≡ d % m → (a + b) % m ≡ (c + d) % m
@@ -49,3 +50,35 @@ module _ (m : ℕ) (pos : 0 < m) where
       let one : m - 1 + 1 ≡ m = omega arith in
       let shape : (m - 1) * x + x ≡ x * (m - 1 + 1) = omega arith in
       ap (λ (y : ℕ). y % m) (shape ∙ ap (λ (k : ℕ). x * k) one) ∙ mul-mod-left x m
+
+  -- to take x away is to add m - 1 times x
+  pub minus-times : (x y : ℕ) → (y % m + (m - x % m)) % m ≡ ((m - 1) * x + y) % m
+  minus-times x y =
+      let z : ℕ = (m - 1) * x + y in
+      let shape : x + z ≡ (m - 1) * x + x + y = omega arith in
+      let same : (x + z) % m ≡ y % m = ap (λ (k : ℕ). k % m) shape
+      ∙ mod-add m ((m - 1) * x + x) y 0 y (minus-one x ∙ sym (zero-mod m)) refl ∙ ap (λ (k : ℕ). k % m) (zero-add y) in
+      ap (λ (k : ℕ). (k + (m - x % m)) % m) (sym same) ∙ mod-sub z x
+
+  pub minus-one-squared : (m - 1) * (m - 1) % m ≡ 1 % m
+  minus-one-squared =
+      let c : ℕ = m - 1 in
+      let twice : c + c * c ≡ c * c + c = omega arith in
+      let once : c + 1 ≡ c * 1 + 1 = omega arith in
+      mod-cancel c (c * c) c 1 refl
+      (ap (λ (k : ℕ). k % m) twice ∙ minus-one c ∙ sym (minus-one 1) ∙ ap (λ (k : ℕ). k % m) (sym once))
+
+-- for odd m, what halves
+pub half-power : (m n : ℕ) → m % 2 ≡ 1 → (m / 2 + 1) ^ n * 2 ^ n % m ≡ 1 % m
+half-power m zero odd = rw (pow-zero (m / 2 + 1), pow-zero 2)
+half-power m (suc n) odd =
+    let h : ℕ = m / 2 + 1 in
+    let shape : h ^ n * h * (2 ^ n * 2) ≡ h ^ n * 2 ^ n * (h * 2) = omega arith in
+    let two : h * 2 ≡ 1 * m + 1 = omega arith in
+    rw (pow-suc h n, pow-suc 2 n)
+    (ap (λ (k : ℕ). k % m) shape
+    ∙ mod-mul m (h ^ n * 2 ^ n) (h * 2) 1 1 (half-power m n odd) (ap (λ (k : ℕ). k % m) two ∙ mul-add-mod-self-right 1 m 1))
+
+-- the same of its remainder, which a program computes
+pub half-residue : (m n : ℕ) → m % 2 ≡ 1 → (m / 2 + 1) ^ n % m * 2 ^ n % m ≡ 1 % m
+half-residue m n odd = sym (mul-mod-l m ((m / 2 + 1) ^ n) (2 ^ n)) ∙ half-power m n odd
