@@ -21,3 +21,4 @@ pub mod Transform
 pub mod Pairs
 pub mod Passes
 pub mod Convolution
+pub mod Partitions
