@@ -1,11 +1,10 @@
 -- Equality modulo m, entry by entry: `red m n a` has the remainders of a's entries, and each operation respects them.
 --   add-same, mul-same, comp-same      sums, products and compositions of tables with the same remainders
---   add-cancel                         equal summands cancel
 --   same-at, at-same                   the same of functions of codes
 use mathlib.Core.Path.{_≡_, refl, sym, ap, _∙_}
 use Prim.Native.Nat.{ℕ, zero, suc, _%_, _^_, _<_, _≤_}
 use native.Mathlib.Omega.{arith}
-use Rattle.theory.specs.Remainders.{mod-add, mod-mul, mod-cancel}
+use Rattle.theory.specs.Remainders.{mod-add, mod-mul}
 use Rattle.theory.specs.Semiring.{both}
 use Rattle.theory.specs.Halves.{Table, Row, shift, add, mul, comp, tab, tab-ext, tab-inj}
 
@@ -32,12 +31,6 @@ module _ (m : ℕ) where
   comp-same zero f g a b h p = h 0 (omega arith)
   comp-same (suc n) f g a b h p = both (comp-same n f g _ _ (λ k j. h k (omega arith)) (ap (λ t. t .0) p))
       (mul-same n _ _ _ _ (comp-same n (shift f) (shift g) _ _ (λ k j. h (suc k) (omega arith)) (ap (λ t. t .0) p)) (ap (λ t. t .1) p))
-
-  pub add-cancel : 0 < m → (n : ℕ) (x y z w : Table n) → red n x ≡ red n z → red n (add n x y) ≡ red n (add n z w) → red n y ≡ red n w
-  unfolding red add
-  add-cancel pos zero x y z w p e = mod-cancel m pos x y z w p e
-  add-cancel pos (suc n) x y z w p e = both
-      (add-cancel pos n _ _ _ _ (ap (λ t. t .0) p) (ap (λ t. t .0) e)) (add-cancel pos n _ _ _ _ (ap (λ t. t .1) p) (ap (λ t. t .1) e))
 
   pub tab-red : (n : ℕ) (A : ℕ → ℕ) → red n (tab n A) ≡ tab n (λ c. A c % m)
   unfolding red tab

@@ -2,7 +2,7 @@
 -- All in natural numbers, exact.
 --   Table, zeros, scalar, add, mul     sum and subset product; laws: a commutative semiring
 --   Row, conv, comp                    rows of numbers, their binomial product, and composition with a row
---   comp-plus, comp-conv, exp-add      composition takes binomial products, and the exponential sums, to products
+--   comp-conv, exp-add                 composition takes binomial products, and the exponential sums, to products
 --   null, one, linear                  the rows 0, 0, ..; 1, 0, 0, ..; a, 1, 0, .. and what composition with them gives
 --   tab                                the table of a function of codes; tab-ext, tab-inj, tab-add, tab-empty, tab-unit
 use mathlib.Core.Path.{_≡_, refl, ap, ap₂, _∙_}
@@ -60,7 +60,7 @@ Row = ℕ → ℕ
 abbrev pub shift : Row → Row
 shift f k = f (suc k)
 
-abbrev pub plus : Row → Row → Row
+abbrev plus : Row → Row → Row
 plus f g k = f k + g k
 
 -- the binomial product of rows, by Leibniz's rule
@@ -68,16 +68,11 @@ unfoldable pub conv : Row → Row → Row
 conv f g zero = f 0 * g 0
 conv f g (suc i) = conv (shift f) g i + conv f (shift g) i
 
--- the shift is a derivation
-pub shift-conv : (f g : Row) → shift (conv f g) ≡ plus (conv (shift f) g) (conv f (shift g))
-unfolding conv
-shift-conv f g = refl
-
 unfoldable pub comp : (n : ℕ) → Row → Table n → Table n
 comp zero f a = f 0
 comp (suc n) f a = (comp n f (a .0), mul n (comp n (shift f) (a .0)) (a .1))
 
-pub comp-plus : (n : ℕ) (f g : Row) (a : Table n) → comp n (plus f g) a ≡ add n (comp n f a) (comp n g a)
+comp-plus : (n : ℕ) (f g : Row) (a : Table n) → comp n (plus f g) a ≡ add n (comp n f a) (comp n g a)
 unfolding comp add
 comp-plus zero f g a = refl
 comp-plus (suc n) f g a = both (comp-plus n f g (a .0)) (rw (comp-plus n (shift f) (shift g) (a .0), add-mul (laws n)))
@@ -101,7 +96,7 @@ empty (suc n) a = empty n (a .0)
 
 -- ---- rows: 0, 0, ..; 1, 0, 0, ..; a, 1, 0, 0, ..
 
-abbrev pub null : Row
+abbrev null : Row
 null k = 0
 
 abbrev pub one : Row
@@ -112,7 +107,7 @@ abbrev pub linear : ℕ → Row
 linear a zero = a
 linear a (suc k) = one k
 
-pub comp-null : (n : ℕ) (a : Table n) → comp n null a ≡ zeros n
+comp-null : (n : ℕ) (a : Table n) → comp n null a ≡ zeros n
 unfolding comp zeros
 comp-null zero a = refl
 comp-null (suc n) a = both (comp-null n (a .0)) (rw (comp-null n (a .0)) (zero-mul (laws n) _))
@@ -175,7 +170,7 @@ unfolding empty tab
 tab-empty zero A = refl
 tab-empty (suc k) A = tab-empty k A
 
-pub tab-zeros : (k : ℕ) → tab k (λ c. 0) ≡ zeros k
+tab-zeros : (k : ℕ) → tab k (λ c. 0) ≡ zeros k
 unfolding tab zeros
 tab-zeros zero = refl
 tab-zeros (suc k) = both (tab-zeros k) (tab-zeros k)

@@ -2,7 +2,7 @@
 --   tabulate   length, at, ext, append, self, of (a list that agrees with a rule at each place)
 --   filled     a list whose first entries are set by a rule: what a loop that sets one entry a turn has so far
 --              (filled-none before it, filled-more and turn for one turn, filled-block for a block, part, filled-all and whole at its end)
---   residues   length, at, ext, self, of
+--   residues   length, at, ext, self, of, filled, halves
 use mathlib.Core.Path.{_≡_, refl, sym, _∙_, ap, ap₂}
 use mathlib.Core.List.{List, [], _∷_, _++_, append-assoc, append-nil}
 use mathlib.Core.Logic.{_⊎_, inl, inr}
@@ -127,3 +127,8 @@ module _ (n m : ℕ) where
   pub residues-filled : (f : ℕ → ℕ) (i : ℕ) (r : List ℕ) {l : List ℕ} → l ≡ filled (λ S. f S % m) i r → i ≡ length r → length r ≡ 2 ^ n → l ≡ residues n m f
   unfolding residues
   residues-filled f i r e z k = whole _ i r e z ∙ ap (λ (j : ℕ). tabulate j (λ S. f S % m)) k
+
+-- the halves of a table
+pub residues-halves : (n m : ℕ) (f : ℕ → ℕ) → residues (suc n) m f ≡ residues n m f ++ residues n m (λ c. f (2 ^ n + c))
+unfolding residues
+residues-halves n m f = ap (λ (k : ℕ). tabulate k (λ S. f S % m)) (omega arith) ∙ tabulate-append (2 ^ n) (2 ^ n) _

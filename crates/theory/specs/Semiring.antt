@@ -1,6 +1,6 @@
 -- Commutative semirings, and the pairs (a₀, a₁) = a₀ + a₁ε with ε² = 0 over one: again a commutative semiring.
---   Laws                        the record of the laws; add-left, mul-left, add-mul, zero-add, .. follow
---   leibniz, exp-rule, swap     the product rule, that of exponentials, and (a + b) + (c + d) = (a + c) + (b + d)
+--   Laws                        the record of the laws; add-left, add-mul, zero-add, .. follow
+--   leibniz, exp-rule           the product rule, and that of exponentials
 --   dual                        the laws of the pairs
 use mathlib.Core.Path.{_≡_, ap₂, _∙_}
 
@@ -29,11 +29,8 @@ module _ {A : Type 0} (_⊞_ _⊠_ : A → A → A) (𝟘 𝟙 : A) where
 module _ {A : Type 0} {_⊞_ _⊠_ : A → A → A} {𝟘 𝟙 : A} (L : Laws _⊞_ _⊠_ 𝟘 𝟙) where
   infixl 65 _⊞_
   infixl 70 _⊠_
-  pub add-left : (a b c : A) → a ⊞ (b ⊞ c) ≡ b ⊞ (a ⊞ c)
+  add-left : (a b c : A) → a ⊞ (b ⊞ c) ≡ b ⊞ (a ⊞ c)
   add-left a b c = cc (L .add-assoc a b c, L .add-assoc b a c, L .add-comm a b)
-
-  pub mul-left : (a b c : A) → a ⊠ (b ⊠ c) ≡ b ⊠ (a ⊠ c)
-  mul-left a b c = cc (L .mul-assoc a b c, L .mul-assoc b a c, L .mul-comm a b)
 
   pub add-mul : (a b c : A) → (a ⊞ b) ⊠ c ≡ a ⊠ c ⊞ b ⊠ c
   add-mul a b c = L .mul-comm (a ⊞ b) c ∙ L .mul-add c a b ∙ ap₂ _⊞_ (L .mul-comm c a) (L .mul-comm c b)
@@ -46,9 +43,6 @@ module _ {A : Type 0} {_⊞_ _⊠_ : A → A → A} {𝟘 𝟙 : A} (L : Laws _�
 
   pub one-mul : (a : A) → 𝟙 ⊠ a ≡ a
   one-mul a = L .mul-comm 𝟙 a ∙ L .mul-one a
-
-  pub swap : (a b c d : A) → (a ⊞ b) ⊞ (c ⊞ d) ≡ (a ⊞ c) ⊞ (b ⊞ d)
-  swap a b c d = simp (L .add-assoc, add-left)
 
   -- the product rule, and that of exponentials
   pub leibniz : (p f q g x : A) → (p ⊠ g ⊞ f ⊠ q) ⊠ x ≡ f ⊠ (q ⊠ x) ⊞ (p ⊠ x) ⊠ g

@@ -5,21 +5,23 @@
 --   composition-of-product                     composition with a binomial product of rows
 --   product-residues, composition-residues     remainders taken early do not matter; composition-row: in the row neither
 --   exponential-first, sum-first               first entries
+--   composition-halves, exponential-halves     the halves of the result from those of the table
 use mathlib.Core.Path.{_≡_, refl, sym, ap, ap₂, _∙_}
-use mathlib.Core.List.{List}
-use Prim.Native.Nat.{ℕ, _+_, _%_, _^_, _<_, _≤_}
+use mathlib.Core.List.{List, _++_}
+use Prim.Native.Nat.{ℕ, suc, _+_, _%_, _^_, _<_, _≤_}
 use native.Mathlib.Nat.{mod-mod, mod-eq-of-lt, zero-mod}
 use native.Mathlib.Omega.{arith}
-use lib.ListN.{length}
+use lib.ListN.{length, take, drop}
 use lib.Pow.{pow-pos}
+use lib.Seq.{getD-take, getD-drop}
 use Rattle.definitions.specs.Sums.{tabulate, at}
 use Rattle.definitions.specs.Products.{residues, sumTable, subsetSum, subsetTable}
 use Rattle.definitions.specs.Rows.{binomialSum, binomialRow}
 use Rattle.definitions.specs.Partitions.{compositionSum, compositionTable, exponentialTable, allOnes, unit}
-use Rattle.theory.specs.Lists.{at-tabulate, at-residues, residues-ext, residues-self}
+use Rattle.theory.specs.Lists.{at-tabulate, at-residues, residues-ext, residues-self, residues-halves}
 use Rattle.theory.specs.Remainders.{mod-add}
-use Rattle.theory.specs.Halves.{Row}
-use Rattle.theory.specs.Composition.{composition-empty}
+use Rattle.theory.specs.Halves.{Row, shift}
+use Rattle.theory.specs.Composition.{composition-empty, composition-lo, composition-hi}
 use Rattle.theory.specs.Series.{subset-comm, subset-assoc, subset-plus, subset-unit, exponential-plus, composition-binomial, subset-mod, composition-mod}
 
 module _ (n m : ℕ) where
@@ -79,3 +81,22 @@ module _ (n m : ℕ) where
 
   pub sum-first : (A B : List ℕ) → at A 0 ≡ 0 → at B 0 ≡ 0 → at (sumTable n m A B) 0 ≡ 0
   sum-first A B a b = at-residues n m _ 0 (pow-pos n) ∙ ap₂ (λ (x y : ℕ). (x + y) % m) a b ∙ zero-mod m
+
+  -- ---- by halves: the upper half of a composition is the product of the next one's lower half and the table's upper half
+
+  pub composition-halves : (f : Row) (A : List ℕ)
+      → residues (suc n) m (compositionSum (suc n) f (at A))
+      ≡ residues n m (compositionSum n f (at (take (2 ^ n) A))) ++ subsetTable n m (residues n m (compositionSum n (shift f) (at (take (2 ^ n) A)))) (drop (2 ^ n) A)
+  composition-halves f A =
+      residues-halves n m _
+      ∙ ap₂ _++_ (residues-ext n m _ _ (λ S h. ap (λ (k : ℕ). k % m) (composition-lo n f (at A) S h) ∙ half f S h))
+      (residues-ext n m _ _ (λ S h.
+      ap (λ (k : ℕ). k % m) (composition-hi n f (at A) S ∙ subset-comm n _ _ S h)
+      ∙ subset-mod n m _ _ _ _ (λ T k. half (shift f) T k ∙ sym (at-mod _ T k)) (λ T k. ap (λ (x : ℕ). x % m) (sym (getD-drop (2 ^ n) A T 0))) S h))
+    where
+      half : (g : Row) (S : ℕ) → S < 2 ^ n → compositionSum n g (at A) S % m ≡ compositionSum n g (at (take (2 ^ n) A)) S % m
+      half g = composition-mod n m g g _ _ (λ k h. refl) (λ S h. ap (λ (x : ℕ). x % m) (sym (getD-take (2 ^ n) A S 0 h)))
+
+  pub exponential-halves : (A : List ℕ)
+      → exponentialTable (suc n) m A ≡ exponentialTable n m (take (2 ^ n) A) ++ subsetTable n m (exponentialTable n m (take (2 ^ n) A)) (drop (2 ^ n) A)
+  exponential-halves A = composition-halves allOnes A

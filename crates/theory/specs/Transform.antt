@@ -3,7 +3,6 @@
 --   lin-diagonal      (d 0; 0 d) multiplies by d ^ n
 --   star              the product of tables where a control met twice counts s times without it and t times with it
 --   lin-star          a transform whose rows are 1, β with β² = s + t β takes it to the product entry by entry
---   passes            the same in place, one control after the other: what loops compute; passes-lin: it is the transform
 use mathlib.Core.Path.{_≡_, refl, ap, ap₂, _∙_}
 use Prim.Native.Nat.{ℕ, zero, suc, _+_, _*_, _%_, _^_}
 use native.Mathlib.Nat.{pow-zero, pow-suc}
@@ -95,12 +94,6 @@ module _ (m : ℕ) where
       let lo = lin-same α β γ δ α′ β′ γ′ δ′ p q r s n (a .0) (b .0) (ap (λ t. t .0) e) in
       let hi = lin-same α β γ δ α′ β′ γ′ δ′ p q r s n (a .1) (b .1) (ap (λ t. t .1) e) in
       both (mix-same n α β α′ β′ _ _ _ _ p q lo hi) (mix-same n γ δ γ′ δ′ _ _ _ _ r s lo hi)
-
-  pub point-same : (n : ℕ) (a b c d : Table n) → red m n a ≡ red m n c → red m n b ≡ red m n d → red m n (point n a b) ≡ red m n (point n c d)
-  unfolding red point
-  point-same zero a b c d p q = mod-mul m a b c d p q
-  point-same (suc n) a b c d p q = both
-      (point-same n _ _ _ _ (ap (λ t. t .0) p) (ap (λ t. t .0) q)) (point-same n _ _ _ _ (ap (λ t. t .1) p) (ap (λ t. t .1) q))
 
   module _ (s t : ℕ) where
     -- (x₀ + β x₁)(y₀ + β y₁), where β² = s + t β
