@@ -1,19 +1,20 @@
 -- Common divisors: `sharesDivisor m x` tests whether m and x have one above 1.
 --   shared           a divisor of both, above 1
 --   coprime          where x has a reciprocal modulo m there is none
---   divides-back     Euclid's step: what divides s and r % s divides r
+--   divides-back, euclid-step    Euclid's steps: what divides s and r % s divides r; how r % s is a multiple of x
+--   common, reciprocal           the divisor that Euclid finds; where none is shared, x has a reciprocal
 use mathlib.Core.Path.{_≡_, refl, sym, ap, _∙_}
 use mathlib.Core.Bool.{true, false}
 use mathlib.Core.Logic.{⊎-elim}
-use Prim.Native.Nat.{ℕ, suc, _+_, _*_, _/_, _%_, _<_, _≤_}
-use native.Mathlib.Nat.{div-add-mod', mod-eq-of-lt, zero-mod, zero-mul, mul-zero}
+use Prim.Native.Nat.{ℕ, zero, suc, _+_, _-_, _*_, _/_, _%_, _<_, _≤_}
+use native.Mathlib.Nat.{div-add-mod', mod-eq-of-lt, mod-lt, mod-self, mod-zero, zero-mod, zero-mul, one-mul, mul-zero, zero-add}
 use native.Mathlib.Omega.{arith}
 use lib.Dec.{ltb, eqb, ltb→lt, eqb→eq}
 use borrow.Author.Tests.{lt-ltb}
 use Rattle.definitions.specs.Partitions.{sharesDivisor}
 use Rattle.theory.specs.Tests.{no-test, and-left, and-right, below-or}
 use Rattle.theory.specs.Sums.{none-some, some-found}
-use Rattle.theory.specs.Remainders.{mod-add, mod-mul}
+use Rattle.theory.specs.Remainders.{lacks, mod-add, mod-mul, mod-cancel}
 
 pub shared : (m x d : ℕ) → 0 < m → 1 < d → m % d ≡ 0 → x % d ≡ 0 → sharesDivisor m x ≡ true
 unfolding sharesDivisor
@@ -43,3 +44,54 @@ coprime m x u e = none-some (suc m) _ (λ d h. no-test _ (λ t. clash d
         let right : (q * m + 1) % d ≡ 1 = mod-add d (q * m) 1 0 1 (mod-mul d q m q 0 refl (dm ∙ sym (zero-mod d)) ∙ ap (λ (r : ℕ). r % d) (mul-zero q)) refl ∙ mod-eq-of-lt big in
         let z : _≡_ {A = ℕ} 0 1 = sym left ∙ ap (λ (r : ℕ). r % d) whole ∙ right in
         omega arith
+
+-- ---- Euclid: r and s stay multiples of x modulo m, and what divides both divides m and x
+
+pub euclid-step : (m : ℕ) → 0 < m → (x r s u v : ℕ) → u * x % m ≡ r % m → v * x % m ≡ s % m → (u + (m - r / s * v % m)) * x % m ≡ r % s % m
+euclid-step m pos x r s u v hu hv =
+    let q : ℕ = r / s in
+    let w : ℕ = m - q * v % m in
+    let whole : q * s + r % s ≡ r = div-add-mod' r s in
+    let shape : q * (v * x) + (u + w) * x ≡ (w + q * v) * x + u * x = omega arith in
+    let none : (w + q * v) * x % m ≡ 0 % m = mod-mul m (w + q * v) x 0 x (lacks m pos (q * v) ∙ sym (zero-mod m)) refl ∙ ap (λ (k : ℕ). k % m) (zero-mul x) in
+    mod-cancel m pos (q * (v * x)) ((u + w) * x) (q * s) (r % s) (mod-mul m q (v * x) q s refl hv)
+    (ap (λ (k : ℕ). k % m) shape ∙ mod-add m ((w + q * v) * x) (u * x) 0 r none hu ∙ ap (λ (k : ℕ). k % m) (zero-add r ∙ sym whole))
+
+-- a common divisor that is a multiple of x modulo m
+pub record Common (m x : ℕ) : Type 0 where
+  pub divisor : ℕ
+  pub factor : ℕ
+  pub multiple : factor * x % m ≡ divisor % m
+  pub of-modulus : m % divisor ≡ 0
+  pub of-number : x % divisor ≡ 0
+
+module _ (m x : ℕ) (pos : 0 < m) where
+  abbrev Keeps : ℕ → ℕ → Type 0
+  Keeps r s = (d : ℕ) → r % d ≡ 0 → s % d ≡ 0 → (m % d ≡ 0) × (x % d ≡ 0)
+
+  ends : (r s u : ℕ) → s ≡ 0 → u * x % m ≡ r % m → Keeps r s → Common m x
+  ends r s u z hu back =
+      let b = back r (mod-self r) (rw z (zero-mod r)) in
+      record { divisor = r; factor = u; multiple = hu; of-modulus = b .0; of-number = b .1 }
+
+  -- s falls
+  euclid : (n r s u v : ℕ) → s ≤ n → u * x % m ≡ r % m → v * x % m ≡ s % m → Keeps r s → Common m x
+  euclid zero r s u v h hu hv back = ends r s u (omega arith) hu back
+  euclid (suc n) r s u v h hu hv back = ⊎-elim (λ (z : s < 1). ends r s u (omega arith) hu back)
+      (λ (k : 1 ≤ s). euclid n s (r % s) v (u + (m - r / s * v % m)) (omega (arith, mod-lt r {m = s} k)) hv (euclid-step m pos x r s u v hu hv)
+      (λ d ds dr. back d (divides-back d r s ds dr) ds))
+      (below-or s 1)
+
+  pub common : Common m x
+  common = euclid x m x 0 1 (omega arith)
+      (ap (λ (k : ℕ). k % m) (zero-mul x) ∙ zero-mod m ∙ sym (mod-self m)) (ap (λ (k : ℕ). k % m) (one-mul x)) (λ d dm dx. (dm, dx))
+
+  -- where m and x share no divisor, x has a reciprocal modulo m
+  pub reciprocal : sharesDivisor m x ≡ false → (u : ℕ) × (u * x % m ≡ 1 % m)
+  reciprocal h = by-divisor (common .divisor) refl where
+    by-divisor : (g : ℕ) → common .divisor ≡ g → (u : ℕ) × (u * x % m ≡ 1 % m)
+    by-divisor zero e = absurd (omega (arith, mod-zero m, sym (ap (λ (k : ℕ). m % k) e) ∙ common .of-modulus))
+    by-divisor (suc zero) e = (common .factor, common .multiple ∙ ap (λ (k : ℕ). k % m) e)
+    by-divisor (suc (suc g)) e =
+        let t : true ≡ false = sym (shared m x (suc (suc g)) pos (omega arith) (rw e at (common .of-modulus)) (rw e at (common .of-number))) ∙ h in
+        absurd (let z : _≡_ {A = ℕ} 0 1 = cc in omega arith)

@@ -2,7 +2,7 @@
 --   inverseOf n m u A            the inverse of A, where u is a reciprocal of A's first entry
 --   inverse-is                   it is an inverse
 --   inverse-unique               there is but one
---   inverse-coprime              where there is one, the first entry and m have no common divisor above 1
+--   inverse-coprime, inverse-exists    there is one exactly where the first entry and m have no common divisor above 1
 use mathlib.Core.Path.{_≡_, refl, sym, ap, _∙_}
 use mathlib.Core.Bool.{Bool, true, false, cond}
 use mathlib.Core.List.{List}
@@ -16,7 +16,7 @@ use Rattle.definitions.specs.Products.{residues, subsetSum, subsetTable}
 use Rattle.definitions.specs.Partitions.{compositionSum, unit, IsInverse, sharesDivisor}
 use Rattle.theory.specs.Lists.{length-residues, at-residues, residues-ext, at-tabulate, tabulate-ext}
 use Rattle.theory.specs.Entries.{below-at, below-residues}
-use Rattle.theory.specs.Divisors.{coprime}
+use Rattle.theory.specs.Divisors.{coprime, reciprocal}
 use Rattle.theory.specs.Semiring.{one-mul}
 use Rattle.theory.specs.Halves.{Table, scalar, mul, comp, laws, empty, one, linear, comp-conv, comp-linear, comp-one, tab, tab-empty, tab-unit}
 use Rattle.theory.specs.Product.{subset-empty, tab-mul}
@@ -88,3 +88,6 @@ module _ (n m : ℕ) (A : List ℕ) where
 
   pub inverse-coprime : (I : List ℕ) → IsInverse n m A I → sharesDivisor m (at A 0) ≡ false
   inverse-coprime I i = coprime m (at A 0) (at I 0) (inverse-first I i)
+
+  pub inverse-exists : 2 ≤ m → sharesDivisor m (at A 0) ≡ false → (I : List ℕ) × IsInverse n m A I
+  inverse-exists two h = let r = reciprocal m (at A 0) (omega arith) h in (inverseOf n m (r .0) A, inverse-is (r .0) two (r .1))

@@ -1,12 +1,13 @@
 -- Remainders by m of sums, products and differences.
 --   mod-add, mod-mul       equal remainders give equal remainders
 --   mod-sub                what is left of y + x after y is taken away round through m
---   neg-add, minus-one     what a program subtracts from 0; m - 1 for -1 (minus-times: in a difference)
+--   neg-add, minus-one     what a program subtracts from 0; m - 1 for -1
+--   minus-times, negated   a difference, and what lacks to m, by m - 1
 --   mod-cancel             equal summands cancel
 --   half-power, half-residue    for odd m, the inverse of 2 ^ n
 use mathlib.Core.Path.{_≡_, refl, sym, ap, ap₂, _∙_}
 use Prim.Native.Nat.{ℕ, zero, suc, _+_, _-_, _*_, _/_, _%_, _^_, _<_}
-use native.Mathlib.Nat.{add-mod, mod-add-mod, mod-lt, div-add-mod', mul-add-mod-self-right, mul-mod-left, zero-mod, mul-comm, zero-add, pow-zero, pow-suc}
+use native.Mathlib.Nat.{add-mod, mod-add-mod, mod-lt, div-add-mod', mul-add-mod-self-right, mul-mod-left, zero-mod, mul-comm, add-zero, zero-add, pow-zero, pow-suc}
 use native.Mathlib.Omega.{arith}
 
 pub mod-add : (m a b c d : ℕ) → a % m ≡ c % m → b % m ≡ d % m → (a + b) % m ≡ (c + d) % m
@@ -25,7 +26,7 @@ mod-mul m a b c d p q =
 
 module _ (m : ℕ) (pos : 0 < m) where
   -- x and what x lacks to m
-  lacks : (x : ℕ) → (m - x % m + x) % m ≡ 0
+  pub lacks : (x : ℕ) → (m - x % m + x) % m ≡ 0
   lacks x =
       let shape : m - x % m + x ≡ suc (x / m) * m = omega (arith, mod-lt x pos, div-add-mod' x m) in
       ap (λ (y : ℕ). y % m) shape ∙ mul-mod-left (suc (x / m)) m
@@ -59,6 +60,11 @@ module _ (m : ℕ) (pos : 0 < m) where
       let same : (x + z) % m ≡ y % m = ap (λ (k : ℕ). k % m) shape
       ∙ mod-add m ((m - 1) * x + x) y 0 y (minus-one x ∙ sym (zero-mod m)) refl ∙ ap (λ (k : ℕ). k % m) (zero-add y) in
       ap (λ (k : ℕ). (k + (m - x % m)) % m) (sym same) ∙ mod-sub z x
+
+  pub negated : (x : ℕ) → (m - x % m) % m ≡ (m - 1) * x % m
+  negated x =
+      let z : m - x % m ≡ 0 % m + (m - x % m) = omega (arith, zero-mod m) in
+      ap (λ (k : ℕ). k % m) z ∙ minus-times x 0 ∙ ap (λ (k : ℕ). k % m) (add-zero ((m - 1) * x))
 
   pub minus-one-squared : (m - 1) * (m - 1) % m ≡ 1 % m
   minus-one-squared =
