@@ -1,0 +1,64 @@
+-- How the checks make their answers: the tests of the panel and of the modulus, the list of words behind them, and a test
+-- that comes after the others.
+use mathlib.Core.Path.{_≡_, refl, sym, _∙_, ap, ap₂}
+use mathlib.Core.Bool.{Bool, true, false, _||_}
+use mathlib.Core.List.{List, _∷_}
+use Prim.Native.Nat.{ℕ, zero, suc, _<_, _≤_}
+use native.Mathlib.Omega.{arith}
+use lib.Dec.{ltb}
+use borrow.Author.Tests.{lt-ltb, le-ltb}
+use Rattle.definitions.specs.Limits.{mostControls, lowestModulus, largestModulus}
+use Rattle.definitions.specs.Refusals.{wordIf, orElse, firstWord, panelWord, modulusWord}
+use Rattle.residues.specs.Moduli.{MadeFrom, RefusedFor}
+use Rattle.residues.specs.declared.Modulus.{Modulus}
+use Rattle.checks.specs.Answers.{IsChecked, alsoTested, is-refused, is-accepted, same-number}
+use Rattle.checks.specs.declared.Checked.{Checked}
+use Rattle.checks.specs.declared.Checked.the-variants.{Accepted, Refused}
+
+-- the panel's test, before the others
+one-not-zero : _≡_ {A = ℕ} 1 0 → ⊥
+one-not-zero e = omega arith
+
+pub panel-refused : {n m : ℕ} (k : ℕ) → mostControls < n → IsChecked m (orElse (panelWord n) k) (Refused 1)
+panel-refused {n} k h = is-refused (simp (lt-ltb mostControls n h)) one-not-zero
+
+pub past-panel : (n : ℕ) {m k : ℕ} {r : Checked} → n ≤ mostControls → IsChecked m k r → IsChecked m (orElse (panelWord n) k) r
+past-panel n h x = same-number (simp (le-ltb mostControls n h)) x
+
+-- the words behind the modulus's
+pub these-words : {m w : ℕ} {r : Checked} (ls : List ℕ) →
+    IsChecked m (orElse (modulusWord m) w) r → w ≡ firstWord ls → IsChecked m (firstWord (modulusWord m ∷ ls)) r
+these-words {m} ls x e = same-number (ap (orElse (modulusWord m)) e) x
+
+module _ {o : Checked} (w : ℕ) where
+  pub also-go : {modulus : Modulus} → o ≡ Accepted modulus → w ≡ 0 → Accepted modulus ≡ alsoTested o w
+  also-go e z = sym (ap₂ alsoTested e z)
+
+  pub also-earlier : {k : ℕ} → o ≡ Refused k → Refused k ≡ alsoTested o w
+  also-earlier e = sym (ap (λ (x : Checked). alsoTested x w) e)
+
+also-word : (modulus : Modulus) (w : ℕ) → (w ≡ 0 → ⊥) → Refused w ≡ alsoTested (Accepted modulus) w
+also-word modulus zero h = absurd (h refl)
+also-word modulus (suc w) h = refl
+
+pub also-stop : {o : Checked} (w : ℕ) {modulus : Modulus} → o ≡ Accepted modulus → (w ≡ 0 → ⊥) → Refused w ≡ alsoTested o w
+also-stop w {modulus} e h = also-word modulus w h ∙ sym (ap (λ (x : Checked). alsoTested x w) e)
+
+-- the test of the modulus
+either : (s t : Bool) → orElse (wordIf s 2) (wordIf t 2) ≡ wordIf (s || t) 2
+either true t = refl
+either false t = refl
+
+two-not-zero : {w : ℕ} → w ≡ 2 → w ≡ 0 → ⊥
+two-not-zero e z = omega arith
+
+pub modulus-stands : {m : ℕ} {modulus : Modulus} → MadeFrom m modulus → IsChecked m (modulusWord m) (Accepted modulus)
+modulus-stands {m} h =
+    is-accepted (either (ltb m lowestModulus) (ltb largestModulus m) ∙ ap (λ (t : Bool). wordIf t 2) (h .accepted))
+    (record { valid = h .valid; value-is = h .value-is })
+
+pub modulus-refused : {m w : ℕ} → RefusedFor m w → IsChecked m (modulusWord m) (Refused w)
+modulus-refused {m} h =
+    is-refused
+    (h .number-is ∙ sym (either (ltb m lowestModulus) (ltb largestModulus m) ∙ ap (λ (t : Bool). wordIf t 2) (h .refused)))
+    (two-not-zero (h .number-is))

@@ -1,0 +1,45 @@
+use denote.Ref.{now}
+use borrow.Author.Needs.{needs}
+use Rattle.checks.specs.Accepted.{tableWords}
+use Rattle.checks.proofs.Making.{panel-refused, past-panel, these-words}
+use Rattle.checks.proofs.check_table.Statement.{statement}
+use Rattle.checks.proofs.check_table.Tie as tie
+
+returns : tie.Need-returns
+returns c = panel-refused _ (c .if1 .taken)
+
+power-requires : tie.Need-power-requires
+power-requires c κs = search needs
+
+length-word-requires : tie.Need-length-word-requires
+length-word-requires c κs = search needs
+
+entry-word-requires : tie.Need-entry-word-requires
+entry-word-requires c κs = search needs
+
+slice-aggregate-first-word : tie.Need-slice-aggregate-first-word
+slice-aggregate-first-word c = search needs
+
+first-word-requires : tie.Need-first-word-requires
+first-word-requires c κs = search needs
+
+check-modulus-requires : tie.Need-check-modulus-requires
+check-modulus-requires c κs = search needs
+
+returns-2 : tie.Need-returns-2
+returns-2 c =
+    let s = c .before .before .before .before .before .before .before .before .args in
+    past-panel (s .n) (search needs) (these-words (tableWords (s .n) (s .m) (now (s .a))) (c .check-modulus .ensures) (cc))
+
+pub check-table-spec : {M : Type 1} → statement M
+check-table-spec =
+    tie.close
+    (tie.spec
+    returns
+    power-requires
+    length-word-requires
+    entry-word-requires
+    slice-aggregate-first-word
+    first-word-requires
+    check-modulus-requires
+    returns-2)

@@ -1,0 +1,309 @@
+-- When a call is accepted: the facts that its tests give, and that these facts are enough. For each shape of call a record of
+-- the facts, `SHAPE-accepted` from the number 0 to the record and `SHAPE-accepts` back.
+use mathlib.Core.Path.{_≡_, refl}
+use mathlib.Core.Bool.{Bool, true, false, not}
+use mathlib.Core.List.{List, [], _∷_}
+use Prim.Native.Nat.{ℕ, _+_, _^_, _<_, _≤_}
+use native.Mathlib.Omega.{arith}
+use lib.Dec.{ltb, eqb}
+use lib.ListN.{length}
+use borrow.Author.Tests.{eqb-true, eq-eqb, not-false, ltb-false, le-ltb}
+use Rattle.definitions.specs.Limits.{mostControls, lowestModulus, largestModulus, padLength}
+use Rattle.definitions.specs.Sums.{at}
+use Rattle.definitions.specs.Partitions.{allBelow}
+use Rattle.definitions.specs.Refusals.{wordIf, orElse, firstWord, panelWord, modulusWord, tableWord, rowWord, padWord, entryWord, startWord, sumNumber, binomialNumber, productNumber, singleNumber, exponentialNumber, logarithmNumber, compositionNumber}
+use Rattle.theory.specs.Entries.{below-anywhere, at-below}
+use Rattle.checks.specs.Words.{orElse-first, orElse-second, no-word, all-zero, _and_, AllZero}
+
+-- ---- one test
+
+-- n and m are in range
+pub record InRange (n m : ℕ) : Type 0 where
+  pub few : n ≤ mostControls
+  pub lowest : lowestModulus ≤ m
+  pub largest : m ≤ largestModulus
+
+-- the word of both tests of length: k entries where there should be `long`
+abbrev pub lengthWord : ℕ → ℕ → ℕ
+lengthWord long k = wordIf (not (eqb k long)) 3
+
+-- a list of so many entries, each below m; past its end a list reads 0
+pub record Entries (long m : ℕ) (a : List ℕ) : Type 0 where
+  pub size : length a ≡ long
+  pub below : (i : ℕ) → at a i < m
+
+abbrev pub IsTable : ℕ → ℕ → List ℕ → Type 0
+IsTable n m a = Entries (2 ^ n) m a
+
+abbrev pub IsRow : ℕ → ℕ → List ℕ → Type 0
+IsRow n m f = Entries (n + 1) m f
+
+pub in-range : {n m : ℕ} → panelWord n ≡ 0 → modulusWord m ≡ 0 → InRange n m
+in-range {n} {m} p q =
+    record {
+      few = ltb-false _ _ (no-word (ltb mostControls n) 1 (λ z. omega arith) p);
+      lowest = ltb-false _ _ (no-word (ltb m lowestModulus) 2 (λ z. omega arith) (orElse-first _ _ q));
+      largest = ltb-false _ _ (no-word (ltb largestModulus m) 2 (λ z. omega arith) (orElse-second (wordIf (ltb m lowestModulus) 2) _ q));
+    }
+
+module _ {n m : ℕ} (h : InRange n m) where
+  pub range-panel : panelWord n ≡ 0
+  range-panel = simp (le-ltb mostControls n (h .few))
+
+  pub range-modulus : modulusWord m ≡ 0
+  range-modulus = simp (le-ltb m lowestModulus (h .lowest), le-ltb largestModulus m (h .largest))
+
+pub right-length : (long k : ℕ) → lengthWord long k ≡ 0 → k ≡ long
+right-length long k e = eqb-true k long (not-false (eqb k long) (no-word (not (eqb k long)) 3 (λ z. omega arith) e))
+
+pub length-right : (long k : ℕ) → k ≡ long → lengthWord long k ≡ 0
+length-right long k e = simp (eq-eqb k long e)
+
+pub long-pad : (n k : ℕ) → padWord n k ≡ 0 → padLength n ≤ k
+long-pad n k e = ltb-false k (padLength n) (no-word (ltb k (padLength n)) 4 (λ z. omega arith) e)
+
+pub pad-long : (n k : ℕ) → padLength n ≤ k → padWord n k ≡ 0
+pad-long n k h = simp (le-ltb k (padLength n) h)
+
+pub right-start : (first : ℕ) (a : List ℕ) → startWord first a ≡ 0 → at a 0 ≡ first
+right-start first a e =
+    eqb-true (at a 0) first (not-false (eqb (at a 0) first) (no-word (not (eqb (at a 0) first)) 6 (λ z. omega arith) e))
+
+pub start-right : (first : ℕ) (a : List ℕ) → at a 0 ≡ first → startWord first a ≡ 0
+start-right first a e = simp (eq-eqb (at a 0) first e)
+
+pub all-below : (m : ℕ) (a : List ℕ) → entryWord m a ≡ 0 → allBelow m a ≡ true
+all-below m a e = not-false (allBelow m a) (no-word (not (allBelow m a)) 5 (λ z. omega arith) e)
+
+-- the two tests of a list
+module _ {m long : ℕ} {a : List ℕ} where
+  pub entries : {n : ℕ} → InRange n m → lengthWord long (length a) ≡ 0 → entryWord m a ≡ 0 → Entries long m a
+  entries r l e =
+      record {
+        size = right-length long (length a) l;
+        below = below-anywhere m a (omega (arith, r .lowest)) (all-below m a e);
+      }
+
+  pub entries-length : Entries long m a → lengthWord long (length a) ≡ 0
+  entries-length h = length-right long (length a) (h .size)
+
+  pub entries-below : Entries long m a → entryWord m a ≡ 0
+  entries-below h = simp (at-below m a (λ i l. h .below i))
+
+-- ---- two inputs and a result, all of one length: sum, difference; binomial product of rows
+
+pub record Pair (n m long : ℕ) (a b : List ℕ) (r : ℕ) : Type 0 where
+  pub range : InRange n m
+  pub first : Entries long m a
+  pub second : Entries long m b
+  pub result : r ≡ long
+
+-- the words behind the modulus'
+abbrev pub pairWords : ℕ → ℕ → List ℕ → List ℕ → ℕ → List ℕ
+pairWords m long a b r =
+    lengthWord long (length a)
+    ∷ lengthWord long (length b)
+    ∷ lengthWord long r
+    ∷ entryWord m a
+    ∷ entryWord m b
+    ∷ []
+
+module _ (n m long : ℕ) (a b : List ℕ) (r : ℕ) where
+  pair-facts : AllZero (panelWord n ∷ modulusWord m ∷ pairWords m long a b r) → Pair n m long a b r
+  pair-facts (p, (q, (la, (lb, (lr, (ea, (eb, z))))))) =
+      let i = in-range p q in
+      record { range = i; first = entries i la ea; second = entries i lb eb; result = right-length long r lr }
+
+  pub pair-accepted : firstWord (panelWord n ∷ modulusWord m ∷ pairWords m long a b r) ≡ 0 → Pair n m long a b r
+  pair-accepted e = pair-facts (all-zero (panelWord n ∷ modulusWord m ∷ pairWords m long a b r) e)
+
+  pub pair-accepts : Pair n m long a b r → firstWord (panelWord n ∷ modulusWord m ∷ pairWords m long a b r) ≡ 0
+  pair-accepts h =
+      range-panel (h .range)
+      and range-modulus (h .range)
+      and entries-length (h .first)
+      and entries-length (h .second)
+      and length-right long r (h .result)
+      and entries-below (h .first)
+      and entries-below (h .second)
+      and refl
+
+module _ (n m : ℕ) (a b : List ℕ) (r : ℕ) where
+  pub sum-accepted : sumNumber n m a b r ≡ 0 → Pair n m (2 ^ n) a b r
+  unfolding sumNumber
+  sum-accepted e = pair-accepted n m (2 ^ n) a b r e
+
+  pub sum-accepts : Pair n m (2 ^ n) a b r → sumNumber n m a b r ≡ 0
+  unfolding sumNumber
+  sum-accepts h = pair-accepts n m (2 ^ n) a b r h
+
+  pub binomial-accepted : binomialNumber n m a b r ≡ 0 → Pair n m (n + 1) a b r
+  unfolding binomialNumber
+  binomial-accepted e = pair-accepted n m (n + 1) a b r e
+
+  pub binomial-accepts : Pair n m (n + 1) a b r → binomialNumber n m a b r ≡ 0
+  unfolding binomialNumber
+  binomial-accepts h = pair-accepts n m (n + 1) a b r h
+
+-- ---- two tables, a result and a workspace of p entries: subset and union product, and xor product before its own test
+
+pub record Product (n m : ℕ) (a b : List ℕ) (r p : ℕ) : Type 0 where
+  pub range : InRange n m
+  pub first : IsTable n m a
+  pub second : IsTable n m b
+  pub result : r ≡ 2 ^ n
+  pub pad : padLength n ≤ p
+
+abbrev pub productWords : ℕ → ℕ → List ℕ → List ℕ → ℕ → ℕ → List ℕ
+productWords n m a b r p =
+    tableWord n (length a)
+    ∷ tableWord n (length b)
+    ∷ tableWord n r
+    ∷ padWord n p
+    ∷ entryWord m a
+    ∷ entryWord m b
+    ∷ []
+
+module _ (n m : ℕ) (a b : List ℕ) (r p : ℕ) where
+  product-facts : AllZero (panelWord n ∷ modulusWord m ∷ productWords n m a b r p) → Product n m a b r p
+  product-facts (k, (q, (la, (lb, (lr, (w, (ea, (eb, z)))))))) =
+      let i = in-range k q in
+      record {
+        range = i;
+        first = entries i la ea;
+        second = entries i lb eb;
+        result = right-length (2 ^ n) r lr;
+        pad = long-pad n p w;
+      }
+
+  pub product-accepted : productNumber n m a b r p ≡ 0 → Product n m a b r p
+  unfolding productNumber
+  product-accepted e = product-facts (all-zero (panelWord n ∷ modulusWord m ∷ productWords n m a b r p) e)
+
+  pub product-accepts : Product n m a b r p → productNumber n m a b r p ≡ 0
+  unfolding productNumber
+  product-accepts h =
+      range-panel (h .range)
+      and range-modulus (h .range)
+      and entries-length (h .first)
+      and entries-length (h .second)
+      and length-right (2 ^ n) r (h .result)
+      and pad-long n p (h .pad)
+      and entries-below (h .first)
+      and entries-below (h .second)
+      and refl
+
+-- ---- one table, a result and a workspace: inverse, exponential, logarithm, before their first entry is looked at
+
+pub record Single (n m : ℕ) (a : List ℕ) (r p : ℕ) : Type 0 where
+  pub range : InRange n m
+  pub table : IsTable n m a
+  pub result : r ≡ 2 ^ n
+  pub pad : padLength n ≤ p
+
+abbrev pub singleWords : ℕ → ℕ → List ℕ → ℕ → ℕ → List ℕ
+singleWords n m a r p =
+    tableWord n (length a) ∷ tableWord n r ∷ padWord n p ∷ entryWord m a ∷ []
+
+module _ (n m : ℕ) (a : List ℕ) (r p : ℕ) where
+  single-facts : AllZero (panelWord n ∷ modulusWord m ∷ singleWords n m a r p) → Single n m a r p
+  single-facts (k, (q, (la, (lr, (w, (ea, z)))))) =
+      let i = in-range k q in
+      record { range = i; table = entries i la ea; result = right-length (2 ^ n) r lr; pad = long-pad n p w }
+
+  pub single-accepted : singleNumber n m a r p ≡ 0 → Single n m a r p
+  unfolding singleNumber
+  single-accepted e = single-facts (all-zero (panelWord n ∷ modulusWord m ∷ singleWords n m a r p) e)
+
+  pub single-accepts : Single n m a r p → singleNumber n m a r p ≡ 0
+  unfolding singleNumber
+  single-accepts h =
+      range-panel (h .range)
+      and range-modulus (h .range)
+      and entries-length (h .table)
+      and length-right (2 ^ n) r (h .result)
+      and pad-long n p (h .pad)
+      and entries-below (h .table)
+      and refl
+
+  -- with a first entry: exponential (0) and logarithm (1)
+  abbrev pub startNumber : ℕ → ℕ
+  startNumber first = orElse (singleNumber n m a r p) (startWord first a)
+
+  pub exponential-number : exponentialNumber n m a r p ≡ startNumber 0
+  unfolding exponentialNumber
+  exponential-number = refl
+
+  pub logarithm-number : logarithmNumber n m a r p ≡ startNumber 1
+  unfolding logarithmNumber
+  logarithm-number = refl
+
+-- ---- a table, a row, a result and a workspace: composition
+
+pub record Composition (n m : ℕ) (a f : List ℕ) (r p : ℕ) : Type 0 where
+  pub range : InRange n m
+  pub table : IsTable n m a
+  pub row : IsRow n m f
+  pub result : r ≡ 2 ^ n
+  pub pad : padLength n ≤ p
+  pub start : at a 0 ≡ 0
+
+abbrev pub compositionWords : ℕ → ℕ → List ℕ → List ℕ → ℕ → ℕ → List ℕ
+compositionWords n m a f r p =
+    tableWord n (length a)
+    ∷ rowWord n (length f)
+    ∷ tableWord n r
+    ∷ padWord n p
+    ∷ entryWord m a
+    ∷ entryWord m f
+    ∷ startWord 0 a
+    ∷ []
+
+module _ (n m : ℕ) (a f : List ℕ) (r p : ℕ) where
+  composition-facts : AllZero (panelWord n ∷ modulusWord m ∷ compositionWords n m a f r p) → Composition n m a f r p
+  composition-facts (k, (q, (la, (lf, (lr, (w, (ea, (ef, (s, z))))))))) =
+      let i = in-range k q in
+      record {
+        range = i;
+        table = entries i la ea;
+        row = entries i lf ef;
+        result = right-length (2 ^ n) r lr;
+        pad = long-pad n p w;
+        start = right-start 0 a s;
+      }
+
+  pub composition-accepted : compositionNumber n m a f r p ≡ 0 → Composition n m a f r p
+  unfolding compositionNumber
+  composition-accepted e = composition-facts (all-zero (panelWord n ∷ modulusWord m ∷ compositionWords n m a f r p) e)
+
+  pub composition-accepts : Composition n m a f r p → compositionNumber n m a f r p ≡ 0
+  unfolding compositionNumber
+  composition-accepts h =
+      range-panel (h .range)
+      and range-modulus (h .range)
+      and entries-length (h .table)
+      and entries-length (h .row)
+      and length-right (2 ^ n) r (h .result)
+      and pad-long n p (h .pad)
+      and entries-below (h .table)
+      and entries-below (h .row)
+      and start-right 0 a (h .start)
+      and refl
+
+-- ---- one table alone: the writer, before its buffer is looked at
+
+abbrev pub tableWords : ℕ → ℕ → List ℕ → List ℕ
+tableWords n m a = tableWord n (length a) ∷ entryWord m a ∷ []
+
+abbrev pub tableNumber : ℕ → ℕ → List ℕ → ℕ
+tableNumber n m a = firstWord (panelWord n ∷ modulusWord m ∷ tableWords n m a)
+
+module _ (n m : ℕ) (a : List ℕ) where
+  table-facts : AllZero (panelWord n ∷ modulusWord m ∷ tableWords n m a) → InRange n m × IsTable n m a
+  table-facts (k, (q, (la, (ea, z)))) = let i = in-range k q in (i, entries i la ea)
+
+  pub table-accepted : tableNumber n m a ≡ 0 → InRange n m × IsTable n m a
+  table-accepted e = table-facts (all-zero (panelWord n ∷ modulusWord m ∷ tableWords n m a) e)
+
+  pub table-accepts : InRange n m → IsTable n m a → tableNumber n m a ≡ 0
+  table-accepts i h = range-panel i and range-modulus i and entries-length h and entries-below h and refl

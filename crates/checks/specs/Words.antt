@@ -1,0 +1,65 @@
+-- Laws of the words of refusal: 0 accepts, and of a list of tests the first word that is not 0 counts. Then what lent memory
+-- holds at the end of a call that is refused and of one that is done.
+use mathlib.Core.Path.{_≡_, refl, sym, _∙_, ap}
+use mathlib.Core.Bool.{Bool, true, false}
+use mathlib.Core.List.{List, [], _∷_}
+use Prim.Native.Nat.{ℕ, zero, suc}
+use native.Mathlib.Omega.{arith}
+use Rattle.definitions.specs.Refusals.{wordIf, orElse, firstWord, after, valueAfter}
+
+suc-not-zero : {j : ℕ} → suc j ≡ 0 → ⊥
+suc-not-zero e = omega arith
+
+-- ---- two words
+
+pub orElse-first : (j k : ℕ) → orElse j k ≡ 0 → j ≡ 0
+orElse-first zero k e = refl
+orElse-first (suc j) k e = e
+
+pub orElse-second : (j k : ℕ) → orElse j k ≡ 0 → k ≡ 0
+orElse-second zero k e = e
+orElse-second (suc j) k e = absurd (suc-not-zero e)
+
+pub orElse-stop : (j k : ℕ) → (j ≡ 0 → ⊥) → orElse j k ≡ j
+orElse-stop zero k h = absurd (h refl)
+orElse-stop (suc j) k h = refl
+
+pub orElse-go : (j k : ℕ) → j ≡ 0 → orElse j k ≡ k
+orElse-go j k e = ap (λ (i : ℕ). orElse i k) e
+
+-- a test whose word is 0 fails, if its word is not 0
+pub no-word : (t : Bool) (k : ℕ) → (k ≡ 0 → ⊥) → wordIf t k ≡ 0 → t ≡ false
+no-word true k h e = absurd (h e)
+no-word false k h e = refl
+
+-- ---- a list of words
+
+-- every word of a list is 0
+abbrev pub AllZero : List ℕ → Type 0
+AllZero [] = Unit {0}
+AllZero (k ∷ ks) = (k ≡ 0) × AllZero ks
+
+pub all-zero : (ks : List ℕ) → firstWord ks ≡ 0 → AllZero ks
+all-zero [] e = tt
+all-zero (k ∷ ks) e = (orElse-first k (firstWord ks) e, all-zero ks (orElse-second k (firstWord ks) e))
+
+-- and back, test by test: `e and f and refl`
+infixr 20 _and_
+pub _and_ : {j k : ℕ} → j ≡ 0 → k ≡ 0 → orElse j k ≡ 0
+_and_ {j} {k} e f = orElse-go j k e ∙ f
+
+-- ---- the end of a call whose number is k: memory that it was lent, and what it returns beside the number
+
+pub refused-list : (k : ℕ) (new old : List ℕ) → (k ≡ 0 → ⊥) → old ≡ after k new old
+refused-list zero new old h = absurd (h refl)
+refused-list (suc k) new old h = refl
+
+pub done-list : {k : ℕ} (new old : List ℕ) {last : List ℕ} → k ≡ 0 → last ≡ new → last ≡ after k new old
+done-list new old e f = f ∙ sym (ap (λ (j : ℕ). after j new old) e)
+
+pub refused-value : (k v : ℕ) → (k ≡ 0 → ⊥) → 0 ≡ valueAfter k v
+refused-value zero v h = absurd (h refl)
+refused-value (suc k) v h = refl
+
+pub done-value : {k : ℕ} (v : ℕ) {last : ℕ} → k ≡ 0 → last ≡ v → last ≡ valueAfter k v
+done-value v e f = f ∙ sym (ap (λ (j : ℕ). valueAfter j v) e)

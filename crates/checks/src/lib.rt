@@ -1,0 +1,277 @@
+// What calls on tables and rows share: 01's tests with their words of refusal, in 01's order, and clearing the workspace
+// (01: pad). Each shape of call has one check, and a call gets its modulus from that check alone.
+ghost use mathlib.Core.Path.{_≡_};
+ghost use mathlib.Core.List.{_∷_};
+ghost use Prim.Native.Nat.{_+_, _^_, _≤_};
+ghost use lib.ListN.{length};
+ghost use Rattle.definitions.specs.Limits.{mostControls, padLength};
+ghost use Rattle.definitions.specs.Sums.{at};
+ghost use Rattle.definitions.specs.Refusals.{firstWord, orElse, modulusWord, padWord, entryWord, startWord, cleared, sumNumber, binomialNumber, productNumber, singleNumber, compositionNumber};
+ghost use Rattle.checks.specs.Accepted.{lengthWord, pairWords, startNumber, tableNumber};
+ghost use Rattle.checks.specs.Answers.{IsChecked, alsoTested};
+use residues::Modulus;
+use residues::ModulusAnswer;
+
+// What the tests of a call say: the modulus, or the word of the refusal.
+pub enum Checked {
+    Accepted(Modulus),
+    Refused(u32),
+}
+
+// The most controls that a panel has.
+pub const MOST_CONTROLS: u32 = 16;
+
+// How many entries a table of n controls has.
+pub fn power(n: u32) -> usize
+    requires { ⌜ n ≤ mostControls ⌝ }
+    ensures { λ r. ⌜ r ≡ 2 ^ n ⌝ }
+{
+    1 << n
+}
+
+// How many entries of the workspace a call uses (01: W).
+pub fn pad_length(n: u32) -> usize
+    requires { ⌜ n ≤ mostControls ⌝ }
+    ensures { λ r. ⌜ r ≡ padLength n ⌝ }
+{
+    let k = n as usize;
+    (2 * k + 4) * power(n)
+}
+
+fn length_word(expected: usize, found: usize) -> u32
+    ensures { λ r. ⌜ r ≡ lengthWord expected found ⌝ }
+{
+    if found == expected { 0 } else { 3 }
+}
+
+fn pad_word(n: u32, found: usize) -> u32
+    requires { ⌜ n ≤ mostControls ⌝ }
+    ensures { λ r. ⌜ r ≡ padWord n found ⌝ }
+{
+    if found < pad_length(n) { 4 } else { 0 }
+}
+
+// All entries are looked at, so that the loop has no way out of its middle.
+fn entry_word(m: u32, a: &[u32]) -> u32
+    ensures { λ r. ⌜ r ≡ entryWord m (now (a .entry)) ⌝ }
+{
+    let mut word: u32 = 0;
+    let mut i = 0;
+    while i < a.len() {
+        if m <= a[i] {
+            word = 5;
+        }
+        i += 1;
+    }
+    word
+}
+
+// The entry at the empty set.
+fn first_entry(a: &[u32]) -> u32
+    ensures { λ r. ⌜ r ≡ at (now (a .entry)) 0 ⌝ }
+{
+    if 0 < a.len() { a[0] } else { 0 }
+}
+
+// Whether the first entry is the one that the call takes.
+pub fn start_word(first: u32, a: &[u32]) -> u32
+    ensures { λ r. ⌜ r ≡ startWord first (now (a .entry)) ⌝ }
+{
+    if first_entry(a) == first { 0 } else { 6 }
+}
+
+fn or_else(first: u32, second: u32) -> u32
+    ensures { λ r. ⌜ r ≡ orElse first second ⌝ }
+{
+    if first == 0 { second } else { first }
+}
+
+// The first word of some tests that is not 0.
+fn first_word(words: &[u32]) -> u32
+    ensures { λ r. ⌜ r ≡ firstWord (now (words .entry)) ⌝ }
+{
+    let mut word: u32 = 0;
+    let mut i = words.len();
+    while 0 < i {
+        i -= 1;
+        word = or_else(words[i], word);
+    }
+    word
+}
+
+impl Checked {
+    // The answer if one more test, with this word, is made after the others.
+    pub fn also(self, word: u32) -> Checked
+        ensures { λ r. ⌜ r ≡ alsoTested self word ⌝ }
+    {
+        match self {
+            Checked::Accepted(modulus) => {
+                if word == 0 {
+                    Checked::Accepted(modulus)
+                } else {
+                    Checked::Refused(word)
+                }
+            }
+            Checked::Refused(earlier) => Checked::Refused(earlier),
+        }
+    }
+}
+
+fn modulus_checked(m: u32) -> Checked
+    ensures { λ r. ⌜ IsChecked m (modulusWord m) r ⌝ }
+{
+    match Modulus::new(m) {
+        ModulusAnswer::Modulus(modulus) => Checked::Accepted(modulus),
+        ModulusAnswer::Refused(word) => Checked::Refused(word),
+    }
+}
+
+// The test of the modulus, and then the word of the tests behind it.
+fn check_modulus(m: u32, word: u32) -> Checked
+    ensures { λ r. ⌜ IsChecked m (orElse (modulusWord m) word) r ⌝ }
+{
+    modulus_checked(m).also(word)
+}
+
+// Two inputs and a result that have the same length.
+fn check_lists(m: u32, long: usize, a: &[u32], b: &[u32], result: usize) -> Checked
+    ensures { λ r. ⌜ IsChecked m (firstWord (modulusWord m ∷ pairWords m long (now (a .entry)) (now (b .entry)) result)) r ⌝ }
+{
+    let words = [
+        length_word(long, a.len()),
+        length_word(long, b.len()),
+        length_word(long, result),
+        entry_word(m, a),
+        entry_word(m, b),
+    ];
+    check_modulus(m, first_word(&words))
+}
+
+// Sum and difference: two tables and a result of this length.
+pub fn check_pair(n: u32, m: u32, a: &[u32], b: &[u32], result: usize) -> Checked
+    ensures { λ r. ⌜ IsChecked m (sumNumber n m (now (a .entry)) (now (b .entry)) result) r ⌝ }
+{
+    if MOST_CONTROLS < n {
+        return Checked::Refused(1);
+    }
+    check_lists(m, power(n), a, b, result)
+}
+
+// Binomial product: two rows and a result of this length.
+pub fn check_rows(n: u32, m: u32, f: &[u32], g: &[u32], result: usize) -> Checked
+    ensures { λ r. ⌜ IsChecked m (binomialNumber n m (now (f .entry)) (now (g .entry)) result) r ⌝ }
+{
+    if MOST_CONTROLS < n {
+        return Checked::Refused(1);
+    }
+    let long = (n as usize) + 1;
+    check_lists(m, long, f, g, result)
+}
+
+// Products: two tables, and a result and a workspace of these lengths.
+pub fn check_product(
+    n: u32,
+    m: u32,
+    a: &[u32],
+    b: &[u32],
+    result: usize,
+    workspace: usize,
+) -> Checked
+    ensures { λ r. ⌜ IsChecked m (productNumber n m (now (a .entry)) (now (b .entry)) result workspace) r ⌝ }
+{
+    if MOST_CONTROLS < n {
+        return Checked::Refused(1);
+    }
+    let long = power(n);
+    let words = [
+        length_word(long, a.len()),
+        length_word(long, b.len()),
+        length_word(long, result),
+        pad_word(n, workspace),
+        entry_word(m, a),
+        entry_word(m, b),
+    ];
+    check_modulus(m, first_word(&words))
+}
+
+// One table, and a result and a workspace of these lengths.
+pub fn check_single(n: u32, m: u32, a: &[u32], result: usize, workspace: usize) -> Checked
+    ensures { λ r. ⌜ IsChecked m (singleNumber n m (now (a .entry)) result workspace) r ⌝ }
+{
+    if MOST_CONTROLS < n {
+        return Checked::Refused(1);
+    }
+    let long = power(n);
+    let words = [
+        length_word(long, a.len()),
+        length_word(long, result),
+        pad_word(n, workspace),
+        entry_word(m, a),
+    ];
+    check_modulus(m, first_word(&words))
+}
+
+// The same, and its first entry: exponential (0) and logarithm (1).
+pub fn check_start(
+    n: u32,
+    m: u32,
+    first: u32,
+    a: &[u32],
+    result: usize,
+    workspace: usize,
+) -> Checked
+    ensures { λ r. ⌜ IsChecked m (startNumber n m (now (a .entry)) result workspace first) r ⌝ }
+{
+    let checked = check_single(n, m, a, result, workspace);
+    checked.also(start_word(first, a))
+}
+
+// Composition: a table, a row, and a result and a workspace of these lengths.
+pub fn check_composition(
+    n: u32,
+    m: u32,
+    a: &[u32],
+    f: &[u32],
+    result: usize,
+    workspace: usize,
+) -> Checked
+    ensures { λ r. ⌜ IsChecked m (compositionNumber n m (now (a .entry)) (now (f .entry)) result workspace) r ⌝ }
+{
+    if MOST_CONTROLS < n {
+        return Checked::Refused(1);
+    }
+    let long = power(n);
+    let words = [
+        length_word(long, a.len()),
+        length_word((n as usize) + 1, f.len()),
+        length_word(long, result),
+        pad_word(n, workspace),
+        entry_word(m, a),
+        entry_word(m, f),
+        start_word(0, a),
+    ];
+    check_modulus(m, first_word(&words))
+}
+
+// The writer's table.
+pub fn check_table(n: u32, m: u32, a: &[u32]) -> Checked
+    ensures { λ r. ⌜ IsChecked m (tableNumber n m (now (a .entry))) r ⌝ }
+{
+    if MOST_CONTROLS < n {
+        return Checked::Refused(1);
+    }
+    let words = [length_word(power(n), a.len()), entry_word(m, a)];
+    check_modulus(m, first_word(&words))
+}
+
+// The first entries of the workspace become 0.
+pub fn clear(long: usize, workspace: &mut [u32])
+    requires { ⌜ long ≤ length (now workspace) ⌝ }
+    ensures { λ _. ⌜ now (workspace .exit) ≡ cleared long (now (workspace .entry)) ⌝ }
+{
+    let mut i = 0;
+    while i < long {
+        workspace[i] = 0;
+        i += 1;
+    }
+}
