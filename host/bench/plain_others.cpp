@@ -1,0 +1,95 @@
+// Entrywise calls, union and xor product, binomial product and table files as plain loops.
+#include "plain.h"
+
+#include <algorithm>
+
+void plain::sum(u32 n, u32 m, const u32 *a, const u32 *b, u32 *result) {
+    for (std::size_t i = 0; i < std::size_t{1} << n; i++) result[i] = add_mod(a[i], b[i], m);
+}
+
+void plain::difference(u32 n, u32 m, const u32 *a, const u32 *b, u32 *result) {
+    for (std::size_t i = 0; i < std::size_t{1} << n; i++) result[i] = sub_mod(a[i], b[i], m);
+}
+
+// Shows `change` the entries without and with each control in turn.
+template <typename Change>
+static void for_each_control(u32 n, u32 *table, Change change) {
+    for (u32 i = 0; i < n; i++) {
+        std::size_t step = std::size_t{1} << i;
+        for (std::size_t base = 0; base < std::size_t{1} << n; base += 2 * step) {
+            for (std::size_t low = base; low < base + step; low++) change(table[low], table[low + step]);
+        }
+    }
+}
+
+template <typename Forward, typename Back>
+static void transformed_product(u32 n, u32 m, const u32 *a, const u32 *b, u32 *result, u32 *work, Forward forward, Back back) {
+    const std::size_t entries = std::size_t{1} << n;
+    std::copy(a, a + entries, result);
+    std::copy(b, b + entries, work);
+    for_each_control(n, result, forward);
+    for_each_control(n, work, forward);
+    for (std::size_t i = 0; i < entries; i++) result[i] = mul_mod(result[i], work[i], m);
+    for_each_control(n, result, back);
+}
+
+void plain::union_product(u32 n, u32 m, const u32 *a, const u32 *b, u32 *result, u32 *work) {
+    auto zeta = [m](u32 &without, u32 &with) { with = add_mod(with, without, m); };
+    auto moebius = [m](u32 &without, u32 &with) { with = sub_mod(with, without, m); };
+    transformed_product(n, m, a, b, result, work, zeta, moebius);
+}
+
+void plain::xor_product(u32 n, u32 m, const u32 *a, const u32 *b, u32 *result, u32 *work) {
+    auto butterfly = [m](u32 &without, u32 &with) {
+        u32 x = without, y = with;
+        without = add_mod(x, y, m);
+        with = sub_mod(x, y, m);
+    };
+    transformed_product(n, m, a, b, result, work, butterfly, butterfly);
+    u32 scale = 1;
+    for (u32 i = 0; i < n; i++) scale = mul_mod(scale, m / 2 + 1, m);
+    for (std::size_t i = 0; i < std::size_t{1} << n; i++) result[i] = mul_mod(result[i], scale, m);
+}
+
+void plain::binomial_product(u32 n, u32 m, const u32 *f, const u32 *g, u32 *result) {
+    u32 choose[17] = {};
+    for (u32 i = 0; i <= n; i++) {
+        choose[i] = 1;
+        for (u32 j = i; j-- > 1;) choose[j] += choose[j - 1];
+        u64 sum = 0;
+        for (u32 j = 0; j <= i; j++) sum += u64{mul_mod(choose[j] % m, f[j], m)} * g[i - j] % m;
+        result[i] = static_cast<u32>(sum % m);
+    }
+}
+
+static u32 take_number(const u8 *&at) {
+    u32 value = 0;
+    for (u32 shift = 0;; shift += 7) {
+        value |= u32{*at & 0x7fu} << shift;
+        if (*at++ < 0x80) return value;
+    }
+}
+
+static void put_number(u8 *&at, u32 value) {
+    for (; value >= 0x80; value >>= 7) *at++ = static_cast<u8>(value | 0x80);
+    *at++ = static_cast<u8>(value);
+}
+
+u64 plain::header_check(const u8 *bytes, std::size_t) {
+    u64 n = take_number(bytes);
+    return n << 32 | take_number(bytes);
+}
+
+u64 plain::read_table(const u8 *bytes, std::size_t, u32 *table) {
+    u64 n = take_number(bytes), m = take_number(bytes);
+    for (std::size_t i = 0; i < std::size_t{1} << n; i++) table[i] = take_number(bytes);
+    return n << 32 | m;
+}
+
+u64 plain::write_table(u32 n, u32 m, const u32 *table, u8 *buffer) {
+    u8 *at = buffer;
+    put_number(at, n);
+    put_number(at, m);
+    for (std::size_t i = 0; i < std::size_t{1} << n; i++) put_number(at, table[i]);
+    return static_cast<u64>(at - buffer) << 32;
+}

@@ -1,0 +1,98 @@
+/* Counts the sessions that the exercises of a table file can be put together to: count_sessions FILE.
+ *
+ * The table says how many exercises there are for each set of controls. A session uses each control of the panel exactly
+ * once, so the number of sessions is the whole panel's entry of the table's exponential. That number outgrows a machine
+ * word; what is printed is its residue under several moduli, each by itself. */
+#include <stdio.h>
+#include <stdlib.h>
+
+#include "sps.h"
+
+enum { MOST_BYTES = 6 + 5 * (1 << SPS_MOST_CONTROLS) }; /* of a file */
+
+static uint8_t bytes[MOST_BYTES + 1]; /* one more, so that a tail is seen */
+static uint32_t table[1 << SPS_MOST_CONTROLS];
+
+static void show_set(uint32_t code) {
+    const char *separator = "";
+    printf("  {");
+    for (int control = 0; code >> control != 0; control++) {
+        if (code >> control & 1) {
+            printf("%s%d", separator, control);
+            separator = " ";
+        }
+    }
+    printf("}");
+}
+
+static void show_table(uint32_t n) {
+    const int most = 10;
+    int shown = 0;
+    printf("exercises for a set of controls:\n");
+    for (uint32_t code = 0; code < SPS_TABLE_LENGTH(n); code++) {
+        if (table[code] != 0 && shown++ < most) {
+            show_set(code);
+            printf(" %lu\n", (unsigned long)table[code]);
+        }
+    }
+    if (shown > most) printf("  and %d sets more\n", shown - most);
+}
+
+#ifdef HAS_sps_exponential
+static void count_sessions(uint32_t n, uint32_t m) {
+    const size_t length = SPS_TABLE_LENGTH(n), pad_length = SPS_PAD_LENGTH(n);
+    uint32_t *sessions = malloc(length * sizeof *sessions);
+    uint32_t *pad = malloc(pad_length * sizeof *pad);
+    if (sessions == NULL || pad == NULL) exit(EXIT_FAILURE);
+
+    uint32_t number = sps_exponential(n, m, table, length, sessions, length, pad, pad_length);
+    if (number == SPS_ACCEPTED) {
+        printf("  modulo %-10lu %lu\n", (unsigned long)m, (unsigned long)sessions[length - 1]);
+    } else {
+        printf("  modulo %-10lu refused %lu\n", (unsigned long)m, (unsigned long)number);
+    }
+    free(pad);
+    free(sessions);
+}
+
+static void show_sessions(uint32_t n, uint32_t m) {
+    const uint32_t others[] = {998244353, 1000000006, 2147483647};
+    printf("sessions of the whole panel:\n");
+    count_sessions(n, m);
+    for (size_t i = 0; i < sizeof others / sizeof *others; i++) {
+        if (others[i] != m) count_sessions(n, others[i]);
+    }
+}
+#else
+static void show_sessions(uint32_t n, uint32_t m) {
+    (void)n, (void)m;
+    printf("sessions are not counted: this library has no exponential yet\n");
+}
+#endif
+
+int main(int count, char **words) {
+    if (count != 2) {
+        fprintf(stderr, "usage: count_sessions FILE\n");
+        return EXIT_FAILURE;
+    }
+    FILE *file = fopen(words[1], "rb");
+    if (file == NULL) {
+        perror(words[1]);
+        return EXIT_FAILURE;
+    }
+    size_t length = fread(bytes, 1, sizeof bytes, file);
+    fclose(file);
+
+    uint64_t header = sps_header_check(bytes, length);
+    uint32_t n = (uint32_t)(header >> 32) & 0xff, m = (uint32_t)header;
+    uint64_t number = header >> 40;
+    if (number == SPS_ACCEPTED) number = sps_read_table(bytes, length, table, SPS_TABLE_LENGTH(n)) >> 40;
+    if (number != SPS_ACCEPTED) {
+        printf("%s: refused %lu\n", words[1], (unsigned long)number);
+        return EXIT_FAILURE;
+    }
+    printf("%s: %lu controls, modulus %lu\n", words[1], (unsigned long)n, (unsigned long)m);
+    show_table(n);
+    show_sessions(n, m);
+    return EXIT_SUCCESS;
+}

@@ -1,0 +1,147 @@
+/* sps.h - set power series over the controls of a panel: the C interface of libsps.a (x86-64).
+ *
+ * A panel has n controls, 0 to 16.  A set of controls is named by its code, the sum of 2^i over its controls i; its size
+ * is how many controls it has.  A table has 2^n entries, entry S belonging to the set with code S; its first entry is that
+ * of the empty set.  A row has n + 1 entries.  Entries are residues from 0 to m - 1, and all arithmetic is modulo m.
+ *
+ * Slices.  A slice is a pointer and then a length, counted in elements (32-bit numbers or bytes).  The pointer is never
+ * null, also when the length is 0, and is aligned for its element.  Inputs are only read, and two inputs may be the same
+ * slice.  A result, a pad, a table to fill and a buffer overlap nothing else.  What they hold beforehand does not matter.
+ *
+ * Pad.  Where a call takes a pad, it needs SPS_PAD_LENGTH(n) entries.  After an accepted call these are 0, and the rest of
+ * a longer pad is unchanged.
+ *
+ * Refusals.  A call answers 0 when it is accepted, else the number of the first of these conditions that applies.  A
+ * refused call changes nothing that it was lent, and every other number that it returns is 0.
+ */
+#ifndef SPS_H
+#define SPS_H
+
+#include <stddef.h>
+#include <stdint.h>
+
+enum {
+    SPS_ACCEPTED = 0,
+    SPS_PANEL = 1,    /* n above 16 */
+    SPS_MODULUS = 2,  /* m below 2 or above 2147483647 */
+    SPS_LENGTH = 3,   /* a table not of 2^n entries or a row not of n + 1, input or result */
+    SPS_PAD = 4,      /* a pad shorter than SPS_PAD_LENGTH(n) */
+    SPS_ENTRY = 5,    /* an input entry not below m */
+    SPS_START = 6,    /* a first entry that the call does not take */
+    SPS_HALVING = 7,  /* xor product with m even */
+    SPS_GROUP = 8,    /* a number in a file ends early, is not in its shortest form, or is 2^32 or more */
+    SPS_TAIL = 9,     /* bytes after the last entry of a file */
+    SPS_SHORT = 10    /* the buffer is shorter than the file */
+};
+
+#define SPS_MOST_CONTROLS 16
+#define SPS_LOWEST_MODULUS 2u
+#define SPS_LARGEST_MODULUS 2147483647u
+#define SPS_TABLE_LENGTH(n) ((size_t)1 << (n))
+#define SPS_PAD_LENGTH(n) ((2 * (size_t)(n) + 4) << (n))
+
+#ifdef __cplusplus
+extern "C" {
+#endif
+
+/* ---- Sum and difference, entry by entry --------------------------------------------------------------------------- */
+
+/* result[S] = a[S] + b[S].  Refusals 1, 2, 3, 5.  Time 2^n. */
+uint32_t sps_sum(uint32_t n, uint32_t m,
+                 const uint32_t *a, size_t a_len,
+                 const uint32_t *b, size_t b_len,
+                 uint32_t *result, size_t result_len);
+
+/* result[S] = a[S] - b[S].  Refusals 1, 2, 3, 5.  Time 2^n. */
+uint32_t sps_difference(uint32_t n, uint32_t m,
+                        const uint32_t *a, size_t a_len,
+                        const uint32_t *b, size_t b_len,
+                        uint32_t *result, size_t result_len);
+
+/* ---- Products ----------------------------------------------------------------------------------------------------- */
+
+/* result[S] = sum of a[L] * b[R] over the disjoint L, R with union S.  Returns ceiling * 2^32 + number, where the ceiling is
+ * the smaller of n and the two inputs' ceilings together; a table's ceiling is the largest size of a set whose entry is not
+ * 0, and 0 if there is none.  Refusals 1 to 5.  Time 2^n * n^2: the unit that the costs below are given in. */
+uint64_t sps_subset_product(uint32_t n, uint32_t m,
+                            const uint32_t *a, size_t a_len,
+                            const uint32_t *b, size_t b_len,
+                            uint32_t *result, size_t result_len,
+                            uint32_t *pad, size_t pad_len);
+
+/* result[S] = sum of a[L] * b[R] over all L, R with union S.  Refusals 1 to 5.  Time 2^n * n. */
+uint32_t sps_union_product(uint32_t n, uint32_t m,
+                           const uint32_t *a, size_t a_len,
+                           const uint32_t *b, size_t b_len,
+                           uint32_t *result, size_t result_len,
+                           uint32_t *pad, size_t pad_len);
+
+/* result[S] = sum of a[L] * b[R] over all L, R with symmetric difference S; m must be odd.  Refusals 1 to 5, then 7.
+ * Time 2^n * n. */
+uint32_t sps_xor_product(uint32_t n, uint32_t m,
+                         const uint32_t *a, size_t a_len,
+                         const uint32_t *b, size_t b_len,
+                         uint32_t *result, size_t result_len,
+                         uint32_t *pad, size_t pad_len);
+
+/* Rows: result[i] = sum of C(i, j) * f[j] * g[i - j] over j from 0 to i.  Refusals 1, 2, 3, 5.  Time n^2. */
+uint32_t sps_binomial_product(uint32_t n, uint32_t m,
+                              const uint32_t *f, size_t f_len,
+                              const uint32_t *g, size_t g_len,
+                              uint32_t *result, size_t result_len);
+
+/* ---- Sums over partitions ------------------------------------------------------------------------------------------
+ * A partition of S is an unordered collection of nonempty, pairwise disjoint sets (blocks) with union S.  The modulus need
+ * not be prime: nothing is divided by a factorial.  Each of these costs one to two subset products of the same n. */
+
+/* result[S] = sum over the partitions of S of the product of a over the blocks; a[0] must be 0.  Refusals 1 to 6. */
+uint32_t sps_exponential(uint32_t n, uint32_t m,
+                         const uint32_t *a, size_t a_len,
+                         uint32_t *result, size_t result_len,
+                         uint32_t *pad, size_t pad_len);
+
+/* The one table with first entry 0 whose exponential is a; a[0] must be 1.  Refusals 1 to 6. */
+uint32_t sps_logarithm(uint32_t n, uint32_t m,
+                       const uint32_t *a, size_t a_len,
+                       uint32_t *result, size_t result_len,
+                       uint32_t *pad, size_t pad_len);
+
+/* The one table whose subset product with a is 1 at the empty set and 0 elsewhere; a[0] and m must have no common divisor
+ * above 1.  Refusals 1 to 6. */
+uint32_t sps_inverse(uint32_t n, uint32_t m,
+                     const uint32_t *a, size_t a_len,
+                     uint32_t *result, size_t result_len,
+                     uint32_t *pad, size_t pad_len);
+
+/* The exponential's sum with each product also multiplied by f[k], k its number of blocks; a[0] must be 0.  f is a row.
+ * Refusals 1 to 6. */
+uint32_t sps_composition(uint32_t n, uint32_t m,
+                         const uint32_t *a, size_t a_len,
+                         const uint32_t *f, size_t f_len,
+                         uint32_t *result, size_t result_len,
+                         uint32_t *pad, size_t pad_len);
+
+/* ---- Table files ---------------------------------------------------------------------------------------------------
+ * A file is n, then m, then the 2^n entries in rising code, then nothing.  A number is written in groups of seven bits,
+ * lowest group first, one to a byte; the top bit is 1 when another group follows.  Only the shortest form is allowed, and
+ * values stay below 2^32.  So 300 is AC 02. */
+
+/* n * 2^32 + m of a file whose n and m are in order, else 2^40 * number.  Looks at nothing behind m.  In file order: n
+ * (8, then 1), m (8, then 2). */
+uint64_t sps_header_check(const uint8_t *bytes, size_t len);
+
+/* Fills the table from the whole file and returns as the header check does.  In file order: n (8, then 1), m (8, then 2),
+ * the length of the table (3), each entry (8, then 5), the end (9).  Time len. */
+uint64_t sps_read_table(const uint8_t *bytes, size_t len,
+                        uint32_t *table, size_t table_len);
+
+/* Fills the start of the buffer with the file of the table and leaves the bytes behind it unchanged.  Returns bytes written
+ * * 2^32 + number.  A file has at most 6 + 5 * 2^n bytes.  Refusals 1, 2, 3, 5, 10.  Time 2^n. */
+uint64_t sps_write_table(uint32_t n, uint32_t m,
+                         const uint32_t *table, size_t table_len,
+                         uint8_t *buffer, size_t buffer_len);
+
+#ifdef __cplusplus
+}
+#endif
+#endif

@@ -1,0 +1,230 @@
+//! The ten calls on tables and rows in one form: what each is lent, how it is run between guards, and what holds of every
+//! outcome.
+
+use crate::ffi;
+use crate::lent::Lent;
+use crate::random::{Fill, Random};
+use crate::reference::refusals::{number, pad_length};
+use crate::reference::{greatest_common_divisor, partitions, products};
+
+#[derive(Clone, Copy, Debug, PartialEq)]
+pub enum Call {
+    Sum,
+    Difference,
+    SubsetProduct,
+    UnionProduct,
+    XorProduct,
+    BinomialProduct,
+    Exponential,
+    Logarithm,
+    Inverse,
+    Composition,
+}
+
+#[derive(Clone, Copy, Debug, PartialEq)]
+pub enum Shape {
+    Table,
+    Row,
+}
+
+/// What a call is given and lent. `result` and `pad` are what these hold beforehand.
+#[derive(Clone, Debug)]
+pub struct Case {
+    pub n: u32,
+    pub m: u32,
+    pub inputs: Vec<Vec<u32>>,
+    pub result: Vec<u32>,
+    pub pad: Vec<u32>,
+    /// lend the first input's slice for both inputs
+    pub same_slice: bool,
+}
+
+/// What a call answered; the result as it stands afterwards.
+#[derive(Debug, PartialEq)]
+pub struct Outcome {
+    pub number: u32,
+    pub ceiling: u32,
+    pub result: Vec<u32>,
+}
+
+impl Call {
+    pub fn inputs(self) -> &'static [Shape] {
+        match self {
+            Call::BinomialProduct => &[Shape::Row, Shape::Row],
+            Call::Composition => &[Shape::Table, Shape::Row],
+            Call::Exponential | Call::Logarithm | Call::Inverse => &[Shape::Table],
+            _ => &[Shape::Table, Shape::Table],
+        }
+    }
+
+    pub fn result(self) -> Shape {
+        if self == Call::BinomialProduct {
+            Shape::Row
+        } else {
+            Shape::Table
+        }
+    }
+
+    pub fn has_pad(self) -> bool {
+        !matches!(self, Call::Sum | Call::Difference | Call::BinomialProduct)
+    }
+
+    /// The moduli at which the call is tried.
+    pub fn moduli(self) -> &'static [u32] {
+        match self {
+            Call::XorProduct => &[3, 9, 15, 101, 1155, 1_000_000_007, 2_147_483_647],
+            _ => &[2, 3, 4, 6, 101, 256, 30030, 998_244_353, 1_000_000_006, 2_147_483_646, 2_147_483_647],
+        }
+    }
+
+    /// The result by its definition.
+    pub fn defined(self, case: &Case) -> Vec<u32> {
+        let (m, a) = (case.m, &case.inputs[0]);
+        let b = case.inputs.last().unwrap();
+        match self {
+            Call::Sum => products::sum(m, a, b),
+            Call::Difference => products::difference(m, a, b),
+            Call::SubsetProduct => products::subset_product(m, a, b),
+            Call::UnionProduct => products::union_product(m, a, b),
+            Call::XorProduct => products::xor_product(m, a, b),
+            Call::BinomialProduct => products::binomial_product(m, a, b),
+            Call::Exponential => partitions::exponential(m, a),
+            Call::Logarithm => partitions::logarithm(m, a),
+            Call::Inverse => products::inverse(m, a),
+            Call::Composition => partitions::composition(m, a, b),
+        }
+    }
+
+    /// Its number and ceiling, the latter 0 where the call has none.
+    fn answer(self, n: u32, m: u32, a: &[u32], b: &[u32], result: &mut [u32], pad: &mut [u32]) -> (u32, u32) {
+        let number = match self {
+            Call::Sum => ffi::sum(n, m, a, b, result),
+            Call::Difference => ffi::difference(n, m, a, b, result),
+            Call::SubsetProduct => {
+                let packed = ffi::subset_product(n, m, a, b, result, pad);
+                return (packed as u32, (packed >> 32) as u32);
+            }
+            Call::UnionProduct => ffi::union_product(n, m, a, b, result, pad),
+            Call::XorProduct => ffi::xor_product(n, m, a, b, result, pad),
+            Call::BinomialProduct => ffi::binomial_product(n, m, a, b, result),
+            Call::Exponential => ffi::exponential(n, m, a, result, pad),
+            Call::Logarithm => ffi::logarithm(n, m, a, result, pad),
+            Call::Inverse => ffi::inverse(n, m, a, result, pad),
+            Call::Composition => ffi::composition(n, m, a, b, result, pad),
+        };
+        (number, 0)
+    }
+
+    /// Runs the call on lent copies and checks all but the entries of an accepted result: the number, the ceiling, that
+    /// inputs and what lies around each slice stay, that a refusal leaves result and pad, and how the pad is left.
+    pub fn run(self, case: &Case) -> Outcome {
+        let Case { n, m, inputs, .. } = case;
+        let guarded = |contents: &[u32], before| Lent::new(contents, 0xa5a5_5a5a, before);
+        let inputs: Vec<_> = inputs.iter().enumerate().map(|(i, input)| guarded(input, i + 1)).collect();
+        let (mut result, mut pad) = (guarded(&case.result, 3), guarded(&case.pad, 2));
+
+        let (a, b) = (&inputs[0], if case.same_slice { &inputs[0] } else { inputs.last().unwrap() });
+        let (answered, ceiling) = self.answer(*n, *m, a.slice(), b.slice(), result.slice_mut(), pad.slice_mut());
+
+        let about = || format!("{self:?} with n = {n}, m = {m}, number {answered}");
+        assert_eq!(answered, number(self, case), "{}", about());
+        assert_eq!(ceiling, self.ceiling(case, answered), "ceiling of {}", about());
+        for input in &inputs {
+            input.check_unchanged_from(0, &format!("input of {}", about()));
+        }
+        let accepted = answered == 0;
+        let (written, cleared) = match accepted {
+            true => (self.result().length(*n), if self.has_pad() { pad_length(*n) } else { 0 }),
+            false => (0, 0),
+        };
+        result.check_unchanged_from(written, &format!("result of {}", about()));
+        pad.check_unchanged_from(cleared, &format!("pad of {}", about()));
+        assert!(pad.slice()[..cleared].iter().all(|&x| x == 0), "pad not cleared by {}", about());
+        Outcome { number: answered, ceiling, result: result.slice().to_vec() }
+    }
+
+    /// Runs the call and compares the result with its definition too.
+    pub fn compare(self, case: &Case) {
+        let outcome = self.run(case);
+        if outcome.number == 0 {
+            assert_same(&outcome.result, &self.defined(case), || format!("{self:?} with n = {}, m = {}", case.n, case.m));
+        }
+    }
+
+    fn ceiling(self, case: &Case, number: u32) -> u32 {
+        match self {
+            Call::SubsetProduct if number == 0 => case.n.min(case.inputs.iter().map(|input| products::ceiling(input)).sum()),
+            _ => 0,
+        }
+    }
+}
+
+impl Case {
+    /// A case that the call accepts, with what was lent full of large numbers and the pad longer than it must be.
+    pub fn new(call: Call, n: u32, m: u32, inputs: Vec<Vec<u32>>) -> Self {
+        let pad = if call.has_pad() { vec![u32::MAX; pad_length(n) + 5] } else { Vec::new() };
+        Case { n, m, inputs, result: vec![u32::MAX; call.result().length(n)], pad, same_slice: false }
+    }
+
+    /// A case with inputs of these kinds, and a first entry that the call takes.
+    pub fn filled(call: Call, n: u32, m: u32, fills: [Fill; 2], random: &mut Random) -> Self {
+        let shapes = call.inputs().iter().zip(fills);
+        let inputs = shapes.map(|(shape, fill)| fill.entries(shape.length(n), m, random)).collect();
+        let mut case = Case::new(call, n, m, inputs);
+        case.set_first(call, random);
+        case
+    }
+
+    fn set_first(&mut self, call: Call, random: &mut Random) {
+        let first = &mut self.inputs[0][0];
+        match call {
+            Call::Exponential | Call::Composition => *first = 0,
+            Call::Logarithm => *first = 1,
+            Call::Inverse => {
+                while greatest_common_divisor(*first, self.m) > 1 {
+                    *first = random.residue(self.m);
+                }
+            }
+            _ => {}
+        }
+    }
+}
+
+/// Two tables or rows are the same, else the first difference is shown.
+pub fn assert_same(found: &[u32], expected: &[u32], about: impl Fn() -> String) {
+    assert_eq!(found.len(), expected.len(), "length of {}", about());
+    if let Some(i) = (0..found.len()).find(|&i| found[i] != expected[i]) {
+        panic!("{}: entry {i} is {}, expected {}", about(), found[i], expected[i]);
+    }
+}
+
+/// A test for each call, ignored where the library does not have it.
+macro_rules! for_each_call {
+    ($($name:ident $present:ident $call:ident;)*) => {
+        /// Makes a test of `$check`, a function of the call, for each of the ten calls.
+        macro_rules! each_call {
+            ($check:path) => {
+                $(
+                    #[test]
+                    #[cfg_attr(not($present), ignore = "absent")]
+                    fn $name() {
+                        $check($crate::calls::Call::$call)
+                    }
+                )*
+            };
+        }
+        pub(crate) use each_call;
+    };
+}
+for_each_call! {
+    sum has_sps_sum Sum;
+    difference has_sps_difference Difference;
+    subset_product has_sps_subset_product SubsetProduct;
+    union_product has_sps_union_product UnionProduct;
+    xor_product has_sps_xor_product XorProduct;
+    binomial_product has_sps_binomial_product BinomialProduct;
+    exponential has_sps_exponential Exponential;
+    logarithm has_sps_logarithm Logarithm;
+    inverse has_sps_inverse Inverse;
+    composition has_sps_composition Composition;
+}

@@ -1,0 +1,97 @@
+//! Safe wrappers over the functions of the C interface.
+
+/// Declares each function where the library has it; where it has not, a call of it panics. (Its tests are ignored then.)
+macro_rules! interface {
+    ($($present:ident $name:ident($($parameter:ident: $kind:ty),*) -> $answer:ty;)*) => {
+        mod raw {
+            $(
+                #[cfg($present)]
+                extern "C" {
+                    pub fn $name($($parameter: $kind),*) -> $answer;
+                }
+                #[cfg(not($present))]
+                pub unsafe fn $name($(_: $kind),*) -> $answer {
+                    panic!(concat!(stringify!($name), " is absent"))
+                }
+            )*
+        }
+    };
+}
+
+interface! {
+    has_sps_sum sps_sum(n: u32, m: u32, a: *const u32, a_len: usize, b: *const u32, b_len: usize,
+        result: *mut u32, result_len: usize) -> u32;
+    has_sps_difference sps_difference(n: u32, m: u32, a: *const u32, a_len: usize, b: *const u32, b_len: usize,
+        result: *mut u32, result_len: usize) -> u32;
+    has_sps_subset_product sps_subset_product(n: u32, m: u32, a: *const u32, a_len: usize, b: *const u32, b_len: usize,
+        result: *mut u32, result_len: usize, pad: *mut u32, pad_len: usize) -> u64;
+    has_sps_union_product sps_union_product(n: u32, m: u32, a: *const u32, a_len: usize, b: *const u32, b_len: usize,
+        result: *mut u32, result_len: usize, pad: *mut u32, pad_len: usize) -> u32;
+    has_sps_xor_product sps_xor_product(n: u32, m: u32, a: *const u32, a_len: usize, b: *const u32, b_len: usize,
+        result: *mut u32, result_len: usize, pad: *mut u32, pad_len: usize) -> u32;
+    has_sps_binomial_product sps_binomial_product(n: u32, m: u32, f: *const u32, f_len: usize, g: *const u32, g_len: usize,
+        result: *mut u32, result_len: usize) -> u32;
+    has_sps_exponential sps_exponential(n: u32, m: u32, a: *const u32, a_len: usize,
+        result: *mut u32, result_len: usize, pad: *mut u32, pad_len: usize) -> u32;
+    has_sps_logarithm sps_logarithm(n: u32, m: u32, a: *const u32, a_len: usize,
+        result: *mut u32, result_len: usize, pad: *mut u32, pad_len: usize) -> u32;
+    has_sps_inverse sps_inverse(n: u32, m: u32, a: *const u32, a_len: usize,
+        result: *mut u32, result_len: usize, pad: *mut u32, pad_len: usize) -> u32;
+    has_sps_composition sps_composition(n: u32, m: u32, a: *const u32, a_len: usize, f: *const u32, f_len: usize,
+        result: *mut u32, result_len: usize, pad: *mut u32, pad_len: usize) -> u32;
+    has_sps_header_check sps_header_check(bytes: *const u8, len: usize) -> u64;
+    has_sps_read_table sps_read_table(bytes: *const u8, len: usize, table: *mut u32, table_len: usize) -> u64;
+    has_sps_write_table sps_write_table(n: u32, m: u32, table: *const u32, table_len: usize,
+        buffer: *mut u8, buffer_len: usize) -> u64;
+}
+
+/// A safe wrapper over a function of two inputs, with or without a pad.
+macro_rules! of_two_inputs {
+    ($wrapper:ident, $function:ident -> $answer:ty $(, $pad:ident)?) => {
+        pub fn $wrapper(n: u32, m: u32, a: &[u32], b: &[u32], result: &mut [u32] $(, $pad: &mut [u32])?) -> $answer {
+            // Sound: every pointer and length is that of a slice, and Rust lets no &mut slice overlap another.
+            unsafe {
+                raw::$function(n, m, a.as_ptr(), a.len(), b.as_ptr(), b.len(), result.as_mut_ptr(), result.len()
+                    $(, $pad.as_mut_ptr(), $pad.len())?)
+            }
+        }
+    };
+}
+
+/// A safe wrapper over a function of one input, with a pad.
+macro_rules! of_one_input {
+    ($wrapper:ident, $function:ident) => {
+        pub fn $wrapper(n: u32, m: u32, a: &[u32], result: &mut [u32], pad: &mut [u32]) -> u32 {
+            // Sound: as above.
+            unsafe {
+                raw::$function(n, m, a.as_ptr(), a.len(), result.as_mut_ptr(), result.len(), pad.as_mut_ptr(), pad.len())
+            }
+        }
+    };
+}
+
+of_two_inputs!(sum, sps_sum -> u32);
+of_two_inputs!(difference, sps_difference -> u32);
+of_two_inputs!(subset_product, sps_subset_product -> u64, pad);
+of_two_inputs!(union_product, sps_union_product -> u32, pad);
+of_two_inputs!(xor_product, sps_xor_product -> u32, pad);
+of_two_inputs!(binomial_product, sps_binomial_product -> u32);
+of_two_inputs!(composition, sps_composition -> u32, pad);
+of_one_input!(exponential, sps_exponential);
+of_one_input!(logarithm, sps_logarithm);
+of_one_input!(inverse, sps_inverse);
+
+pub fn header_check(bytes: &[u8]) -> u64 {
+    // Sound: as above.
+    unsafe { raw::sps_header_check(bytes.as_ptr(), bytes.len()) }
+}
+
+pub fn read_table(bytes: &[u8], table: &mut [u32]) -> u64 {
+    // Sound: as above.
+    unsafe { raw::sps_read_table(bytes.as_ptr(), bytes.len(), table.as_mut_ptr(), table.len()) }
+}
+
+pub fn write_table(n: u32, m: u32, table: &[u32], buffer: &mut [u8]) -> u64 {
+    // Sound: as above.
+    unsafe { raw::sps_write_table(n, m, table.as_ptr(), table.len(), buffer.as_mut_ptr(), buffer.len()) }
+}

@@ -1,0 +1,21 @@
+//! Tests of the C interface (`host/include/sps.h`) against an independent implementation written from the
+//! specification's sentences. A test of a function that the linked library does not have is ignored.
+#![cfg(test)]
+
+// What the tests are made of.
+mod calls;
+mod ffi;
+mod lent;
+mod random;
+mod reference;
+
+// The tests, by subject.
+mod entrywise;
+mod laws;
+mod panelshow;
+mod partition_calls;
+mod refusals;
+mod scope;
+mod subset_product;
+mod table_files;
+mod union_xor;

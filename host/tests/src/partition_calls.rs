@@ -1,0 +1,115 @@
+//! Exponential, logarithm, inverse and composition against partitions listed one by one and tables solved for.
+
+use crate::calls::{assert_same, Call, Case};
+use crate::random::{Fill, Random, FILLS};
+use crate::reference::partitions::{composition_by_blocks, exponential_by_blocks};
+use crate::reference::products::subset_product;
+
+fn small_panels(call: Call) {
+    let random = &mut Random::new(13);
+    for n in 0..=6 {
+        for &m in call.moduli() {
+            for left in FILLS {
+                for right in [Fill::Uniform, Fill::Largest, Fill::Single] {
+                    let mut case = Case::filled(call, n, m, [left, right], random);
+                    if right == Fill::Uniform {
+                        case.pad.iter_mut().chain(&mut case.result).for_each(|entry| *entry = random.word());
+                    }
+                    call.compare(&case);
+                }
+            }
+        }
+    }
+}
+
+fn larger_panels(call: Call) {
+    let random = &mut Random::new(14);
+    for n in 7..=9 {
+        for m in [2, 3, 4, 6, 30030, 2_147_483_646, 2_147_483_647] {
+            call.compare(&Case::filled(call, n, m, [Fill::Uniform; 2], random));
+        }
+    }
+    call.compare(&Case::filled(call, 10, 2_147_483_647, [Fill::Largest; 2], random));
+}
+
+fn both(call: Call) {
+    small_panels(call);
+    larger_panels(call);
+}
+
+#[test]
+#[cfg_attr(not(has_sps_exponential), ignore = "absent")]
+fn exponential() {
+    both(Call::Exponential);
+}
+
+#[test]
+#[cfg_attr(not(has_sps_logarithm), ignore = "absent")]
+fn logarithm() {
+    both(Call::Logarithm);
+}
+
+#[test]
+#[cfg_attr(not(has_sps_inverse), ignore = "absent")]
+fn inverse() {
+    both(Call::Inverse);
+}
+
+#[test]
+#[cfg_attr(not(has_sps_composition), ignore = "absent")]
+fn composition() {
+    both(Call::Composition);
+}
+
+/// Panels and moduli at which partitions are too many to list.
+const LARGE: [(u32, u32); 6] =
+    [(11, 6), (12, 30030), (13, 2_147_483_647), (14, 4), (15, 1_000_000_007), (16, 2_147_483_646)];
+
+#[test]
+#[cfg_attr(not(has_sps_exponential), ignore = "absent")]
+fn exponential_of_large_panels() {
+    let random = &mut Random::new(15);
+    for (n, m) in LARGE {
+        let case = Case::filled(Call::Exponential, n, m, [Fill::Uniform; 2], random);
+        let expected = exponential_by_blocks(m, &case.inputs[0]);
+        assert_same(&Call::Exponential.run(&case).result, &expected, || format!("exponential with n = {n}, m = {m}"));
+    }
+}
+
+#[test]
+#[cfg_attr(not(has_sps_composition), ignore = "absent")]
+fn composition_of_large_panels() {
+    let random = &mut Random::new(16);
+    for (n, m) in LARGE.into_iter().filter(|(n, _)| *n <= 14) {
+        let case = Case::filled(Call::Composition, n, m, [Fill::Uniform; 2], random);
+        let expected = composition_by_blocks(m, &case.inputs[0], &case.inputs[1]);
+        assert_same(&Call::Composition.run(&case).result, &expected, || format!("composition with n = {n}, m = {m}"));
+    }
+}
+
+/// The exponential of the result is what was given.
+#[test]
+#[cfg_attr(not(has_sps_logarithm), ignore = "absent")]
+fn logarithm_of_large_panels() {
+    let random = &mut Random::new(17);
+    for (n, m) in LARGE {
+        let case = Case::filled(Call::Logarithm, n, m, [Fill::Uniform; 2], random);
+        let result = Call::Logarithm.run(&case).result;
+        assert_eq!(result[0], 0);
+        assert_same(&exponential_by_blocks(m, &result), &case.inputs[0], || format!("logarithm with n = {n}, m = {m}"));
+    }
+}
+
+/// The pairs of the input and the result add up to 1 at the empty set and to 0 elsewhere.
+#[test]
+#[cfg_attr(not(has_sps_inverse), ignore = "absent")]
+fn inverse_of_large_panels() {
+    let random = &mut Random::new(18);
+    for (n, m) in LARGE {
+        let case = Case::filled(Call::Inverse, n, m, [Fill::Uniform; 2], random);
+        let mut unit = vec![0; 1 << n];
+        unit[0] = 1;
+        let product = subset_product(m, &case.inputs[0], &Call::Inverse.run(&case).result);
+        assert_same(&product, &unit, || format!("inverse with n = {n}, m = {m}"));
+    }
+}

@@ -1,0 +1,110 @@
+//! Sums over partitions.
+
+use super::products::subsets;
+use super::{minus, plus, times};
+
+/// Shows `visit` the blocks of each partition of the set, each partition once: every control in turn joins a block that is
+/// there or starts a new one.
+fn for_each_partition(set: usize, visit: &mut impl FnMut(&[usize])) {
+    fn place(left: usize, blocks: &mut Vec<usize>, visit: &mut impl FnMut(&[usize])) {
+        if left == 0 {
+            return visit(blocks);
+        }
+        let control = left & left.wrapping_neg();
+        for i in 0..blocks.len() {
+            blocks[i] |= control;
+            place(left & !control, blocks, visit);
+            blocks[i] &= !control;
+        }
+        blocks.push(control);
+        place(left & !control, blocks, visit);
+        blocks.pop();
+    }
+    place(set, &mut Vec::new(), visit)
+}
+
+fn product_over(blocks: &[usize], m: u32, a: &[u32]) -> u32 {
+    blocks.iter().fold(1 % m, |product, &block| times(product, a[block], m))
+}
+
+pub fn composition(m: u32, a: &[u32], f: &[u32]) -> Vec<u32> {
+    let at = |set| {
+        let mut total = 0;
+        for_each_partition(set, &mut |blocks| {
+            total = plus(total, times(f[blocks.len()], product_over(blocks, m, a), m), m);
+        });
+        total
+    };
+    (0..a.len()).map(at).collect()
+}
+
+pub fn exponential(m: u32, a: &[u32]) -> Vec<u32> {
+    let controls = a.len().trailing_zeros() as usize;
+    composition(m, a, &vec![1; controls + 1])
+}
+
+/// Solved entry by entry: of the partitions of S only the one with the single block S has the unknown entry of S.
+pub fn logarithm(m: u32, e: &[u32]) -> Vec<u32> {
+    let mut a = vec![0; e.len()];
+    for set in 1..e.len() {
+        let mut known = 0;
+        for_each_partition(set, &mut |blocks| {
+            if blocks.len() > 1 {
+                known = plus(known, product_over(blocks, m, &a), m);
+            }
+        });
+        a[set] = minus(e[set], known, m);
+    }
+    a
+}
+
+/// The composition for larger panels, by the block that has the set's lowest control; the number of blocks goes up one
+/// by one.
+pub fn composition_by_blocks(m: u32, a: &[u32], f: &[u32]) -> Vec<u32> {
+    let mut with_blocks = vec![0; a.len()];
+    with_blocks[0] = 1 % m;
+    let mut result = vec![0; a.len()];
+    for weight in f {
+        for (entry, &count) in result.iter_mut().zip(&with_blocks) {
+            *entry = plus(*entry, times(*weight, count, m), m);
+        }
+        with_blocks = (0..a.len()).map(|set| with_first_block(set, m, a, &with_blocks)).collect();
+    }
+    result
+}
+
+/// The exponential for larger panels, by the block that has the set's lowest control.
+pub fn exponential_by_blocks(m: u32, a: &[u32]) -> Vec<u32> {
+    let mut result = vec![1 % m];
+    for set in 1..a.len() {
+        result.push(with_first_block(set, m, a, &result));
+    }
+    result
+}
+
+/// The sum over the blocks inside the set that have its lowest control, of a at the block times `rest` at what is left.
+fn with_first_block(set: usize, m: u32, a: &[u32], rest: &[u32]) -> u32 {
+    if set == 0 {
+        return 0;
+    }
+    let lowest = set & set.wrapping_neg();
+    let others = set & !lowest;
+    let terms = subsets(others).map(|part| u64::from(times(a[lowest | part], rest[others & !part], m)));
+    (terms.sum::<u64>() % u64::from(m)) as u32
+}
+
+#[test]
+fn both_ways_to_sum_over_partitions_agree() {
+    let bell_numbers = [1, 1, 2, 5, 15, 52, 203, 877];
+    for (n, &count) in bell_numbers.iter().enumerate() {
+        let mut listed = 0;
+        for_each_partition((1 << n) - 1, &mut |_| listed += 1);
+        assert_eq!(listed, count);
+
+        let (m, entries) = (1009, 1 << n);
+        let a: Vec<u32> = (0..entries).map(|set| set * set * 7 % m).collect();
+        let f: Vec<u32> = (0..=n as u32).map(|k| (5 * k + 3) % m).collect();
+        assert_eq!(composition(m, &a, &f), composition_by_blocks(m, &a, &f));
+        assert_eq!(exponential(m, &a), exponential_by_blocks(m, &a));
+    }
+}

@@ -1,0 +1,81 @@
+//! The subset product against its pairs added up directly.
+
+use crate::calls::{Call, Case};
+use crate::random::{Fill, Random, FILLS};
+
+const CALL: Call = Call::SubsetProduct;
+
+#[test]
+#[cfg_attr(not(has_sps_subset_product), ignore = "absent")]
+fn small_panels() {
+    let random = &mut Random::new(4);
+    for n in 0..=8 {
+        for &m in CALL.moduli() {
+            for left in FILLS {
+                for right in FILLS {
+                    CALL.compare(&Case::filled(CALL, n, m, [left, right], random));
+                }
+            }
+        }
+    }
+}
+
+#[test]
+#[cfg_attr(not(has_sps_subset_product), ignore = "absent")]
+fn larger_panels() {
+    let random = &mut Random::new(5);
+    for n in 9..=13 {
+        for m in [2, 4, 6, 30030, 2_147_483_646, 2_147_483_647] {
+            for fills in
+                [[Fill::Uniform; 2], [Fill::Largest; 2], [Fill::Sparse, Fill::Extremes], [Fill::Single, Fill::Uniform]]
+            {
+                if n < 12 || fills[0] == Fill::Uniform {
+                    CALL.compare(&Case::filled(CALL, n, m, fills, random));
+                }
+            }
+        }
+    }
+}
+
+#[test]
+#[cfg_attr(not(has_sps_subset_product), ignore = "absent")]
+fn largest_panel() {
+    let random = &mut Random::new(6);
+    for (m, fill) in [(2_147_483_647, Fill::Largest), (2_147_483_646, Fill::Uniform), (30030, Fill::Sparse)] {
+        CALL.compare(&Case::filled(CALL, 16, m, [fill, Fill::Uniform], random));
+    }
+    for n in [14, 15] {
+        CALL.compare(&Case::filled(CALL, n, 2_147_483_647, [Fill::Uniform, Fill::Largest], random));
+    }
+}
+
+/// Each pair of single sets: their union where they are disjoint, else nothing.
+#[test]
+#[cfg_attr(not(has_sps_subset_product), ignore = "absent")]
+fn single_sets() {
+    let single = |set: usize, entry| (0..32).map(|s| if s == set { entry } else { 0 }).collect::<Vec<u32>>();
+    for left in 0..32 {
+        for right in 0..32 {
+            let case = Case::new(CALL, 5, 101, vec![single(left, 7), single(right, 9)]);
+            let expected = if left & right == 0 { single(left | right, 63) } else { vec![0; 32] };
+            assert_eq!(CALL.run(&case).result, expected, "{left} and {right}");
+        }
+    }
+}
+
+/// What result and pad held beforehand does not matter, nor how much longer the pad is, nor that the inputs are one slice.
+#[test]
+#[cfg_attr(not(has_sps_subset_product), ignore = "absent")]
+fn whatever_was_lent() {
+    let random = &mut Random::new(7);
+    for n in 0..=9 {
+        for tail in [0, 1, 1000] {
+            let mut case = Case::filled(CALL, n, 2_147_483_647, [Fill::Uniform; 2], random);
+            case.inputs[1] = case.inputs[0].clone();
+            case.same_slice = tail == 1;
+            case.pad.resize(case.pad.len() - 5 + tail, 0);
+            case.pad.iter_mut().chain(&mut case.result).for_each(|entry| *entry = random.word());
+            CALL.compare(&case);
+        }
+    }
+}

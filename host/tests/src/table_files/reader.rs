@@ -1,0 +1,113 @@
+//! The reader.
+
+use super::{for_each_bad_number, for_each_damage, for_each_file, lent_bytes, nearly_a_file, packed, random_file};
+use crate::ffi;
+use crate::lent::Lent;
+use crate::random::{Fill, Random};
+use crate::reference::files::{header, read};
+
+/// Reads the file into a table of the length and compares all outcomes with the decoder's.
+fn check_reader(bytes: &[u8], table_length: usize) {
+    let lent = lent_bytes(bytes);
+    let mut table = Lent::new(&vec![u32::MAX; table_length], 0xa5a5_5a5a, 1);
+    let answer = ffi::read_table(lent.slice(), table.slice_mut());
+    let expected = read(bytes, table_length);
+    let about = || format!("{bytes:02x?} into {table_length} entries");
+    assert_eq!(answer, packed(expected.as_ref().map(|file| (file.n, file.m)).map_err(|word| *word)), "{}", about());
+    lent.check_unchanged_from(0, "bytes of the reader");
+    match expected {
+        Ok(file) => {
+            assert_eq!(table.slice(), file.entries, "{}", about());
+            table.check_guards("table of the reader");
+        }
+        Err(_) => table.check_unchanged_from(0, "table of a refused reading"),
+    }
+}
+
+/// Reads the file into a table of the length that it asks for and into others.
+fn check_reader_of_lengths(bytes: &[u8]) {
+    let right = header(bytes).map_or(1, |(n, _)| 1 << n);
+    for length in [right, right - 1, right + 1, 2 * right, 0] {
+        check_reader(bytes, length);
+    }
+}
+
+#[test]
+#[cfg_attr(not(has_sps_read_table), ignore = "absent")]
+fn reader_of_whole_and_damaged_files() {
+    for_each_file(4, |file, random| {
+        check_reader_of_lengths(&file.bytes());
+        for_each_damage(&file.bytes(), random, check_reader_of_lengths);
+    });
+    let random = &mut Random::new(22);
+    for n in [5, 6, 8] {
+        let file = random_file(n, 2_147_483_647, Fill::Sparse, random);
+        for_each_damage(&file.bytes(), random, |bytes| check_reader(bytes, 1 << n));
+    }
+    for _ in 0..50_000 {
+        check_reader_of_lengths(&nearly_a_file(random));
+    }
+}
+
+#[test]
+#[cfg_attr(not(has_sps_read_table), ignore = "absent")]
+fn reader_of_large_files() {
+    let random = &mut Random::new(23);
+    for n in 9..=16 {
+        for m in [2, 30030, 2_147_483_647] {
+            let file = random_file(n, m, Fill::Uniform, random);
+            let mut bytes = file.bytes();
+            check_reader(&bytes, 1 << n);
+            check_reader(&bytes[..bytes.len() - 1], 1 << n);
+            bytes.push(0);
+            check_reader(&bytes, 1 << n);
+        }
+    }
+}
+
+/// In file order: header, table length (3), each entry (8, then 5), end (9).
+#[test]
+#[cfg_attr(not(has_sps_read_table), ignore = "absent")]
+fn reader_in_file_order() {
+    for (word, length, bytes) in [
+        (8, 3, &[][..]),
+        (1, 3, &[17]),
+        (8, 3, &[2]),
+        (2, 3, &[2, 1]),
+        (3, 3, &[2, 7]),
+        (3, 3, &[2, 7, 0, 3, 0, 5]),
+        (3, 5, &[2, 7, 9, 3, 0, 5, 1]),
+        (3, 0, &[0, 7, 1]),
+        (8, 4, &[2, 7]),
+        (8, 4, &[2, 7, 0, 3, 0]),
+        (8, 4, &[2, 7, 0, 0x80, 0x00, 9, 5]),
+        (5, 4, &[2, 7, 0, 9, 0x80, 0x00, 5]),
+        (5, 4, &[2, 7, 0, 3, 0, 7]),
+        (5, 4, &[2, 7, 0, 3, 0, 7, 0]),
+        (8, 4, &[2, 7, 0, 3, 0, 0x87, 0x00]),
+        (5, 4, &[2, 7, 0, 3, 9]),
+        (9, 4, &[2, 7, 0, 3, 0, 5, 0]),
+        (9, 4, &[2, 7, 0, 3, 0, 5, 0x80]),
+    ] {
+        let table = &mut vec![11; length];
+        assert_eq!(ffi::read_table(bytes, table), word << 40, "{bytes:02x?} into {length} entries");
+        assert_eq!(*table, vec![11; length]);
+    }
+    for_each_bad_number(|_, bytes| {
+        assert_eq!(ffi::read_table(bytes, &mut [0; 4]), 8 << 40, "{bytes:02x?}");
+        check_reader_of_lengths(bytes);
+    });
+}
+
+/// The sample files are accepted.
+#[test]
+#[cfg_attr(not(all(has_sps_header_check, has_sps_read_table)), ignore = "absent")]
+fn samples() {
+    let folder = concat!(env!("CARGO_MANIFEST_DIR"), "/../../samples");
+    for (name, n) in [("two-controls.table", 2), ("four-controls.table", 4), ("eight-controls.table", 8)] {
+        let bytes = std::fs::read(format!("{folder}/{name}")).expect(name);
+        assert_eq!(ffi::header_check(&bytes) >> 32, n.into());
+        check_reader_of_lengths(&bytes);
+        assert_eq!(read(&bytes, 1 << n).map(|file| file.n), Ok(n), "{name}");
+    }
+}

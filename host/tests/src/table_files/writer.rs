@@ -1,0 +1,121 @@
+//! The writer, and the way there and back.
+
+use super::{for_each_file, nearly_a_file, packed, random_file};
+use crate::ffi;
+use crate::lent::Lent;
+use crate::random::{Fill, Random};
+use crate::reference::files::{header, File};
+
+/// Writes the table to a buffer of the length and compares all outcomes with the encoder's.
+fn check_writer(file: &File, buffer_length: usize, word: u32) {
+    let table = Lent::new(&file.entries, 0xa5a5_5a5a, 1);
+    let mut buffer = Lent::new(&vec![0xee; buffer_length], 0x05, 3);
+    let answer = ffi::write_table(file.n, file.m, table.slice(), buffer.slice_mut());
+    let bytes = if word == 0 { file.bytes() } else { Vec::new() };
+    let about = format!("writer with n = {}, m = {}, buffer of {buffer_length}", file.n, file.m);
+    assert_eq!(answer, (bytes.len() as u64) << 32 | u64::from(word), "{about}");
+    table.check_unchanged_from(0, &about);
+    buffer.check_unchanged_from(bytes.len(), &about);
+    assert_eq!(buffer.slice()[..bytes.len()], bytes, "{about}");
+}
+
+#[test]
+#[cfg_attr(not(has_sps_write_table), ignore = "absent")]
+fn writer_of_all_panels() {
+    for_each_file(8, |file, _| {
+        let length = file.bytes().len();
+        for (buffer, word) in [(length, 0), (length + 1, 0), (length + 500, 0), (length - 1, 10), (length / 2, 10), (0, 10)]
+        {
+            check_writer(&file, buffer, word);
+        }
+    });
+    let random = &mut Random::new(24);
+    for n in 9..=16 {
+        for m in [2, 30030, 2_147_483_647] {
+            let file = random_file(n, m, Fill::Uniform, random);
+            let length = file.bytes().len();
+            check_writer(&file, length, 0);
+            check_writer(&file, length - 1, 10);
+        }
+    }
+}
+
+/// Entries at both sides of each place where a number gets a byte longer.
+#[test]
+#[cfg_attr(not(has_sps_write_table), ignore = "absent")]
+fn writer_of_numbers_of_every_length() {
+    let m = 2_147_483_647;
+    for bits in [7, 14, 21, 28, 31] {
+        let turn = 1u64 << bits;
+        for entry in [turn - 2, turn - 1, turn, turn + 1].map(|entry| entry.min(u64::from(m) - 1) as u32) {
+            let file = File { n: 0, m, entries: vec![entry] };
+            let length = file.bytes().len();
+            check_writer(&file, length, 0);
+            check_writer(&file, length - 1, 10);
+        }
+    }
+}
+
+/// Refusals 1, 2, 3, 5 and 10, in every company; the lowest counts.
+#[test]
+#[cfg_attr(not(has_sps_write_table), ignore = "absent")]
+fn writer_refusals() {
+    let random = &mut Random::new(25);
+    for n in [0, 1, 3, 6] {
+        for m in [2, 7, 30030, 2_147_483_647] {
+            let good = random_file(n, m, Fill::Uniform, random);
+            for which in 1..32 {
+                let wrong = |bit| which >> bit & 1 == 1;
+                let lowest = [1, 2, 3, 5, 10][(0..5).find(|bit| wrong(*bit)).unwrap()];
+                for _ in 0..4 {
+                    let mut file = good.clone();
+                    let length = if wrong(4) { file.bytes().len() - 1 } else { file.bytes().len() + 100 };
+                    if wrong(3) {
+                        let place = random.below(1 << n) as usize;
+                        file.entries[place] = *random.pick(&[m, u32::MAX]);
+                    }
+                    if wrong(2) {
+                        let right = file.entries.len();
+                        file.entries.resize(*random.pick(&[0, right - 1, right + 1, 2 * right]), 0);
+                    }
+                    if wrong(1) {
+                        file.m = *random.pick(&[0, 1, 1 << 31, u32::MAX]);
+                    }
+                    if wrong(0) {
+                        file.n = *random.pick(&[17, 32, 64, u32::MAX]);
+                    }
+                    check_writer(&file, length, lowest);
+                }
+            }
+        }
+    }
+}
+
+/// A table written to a file reads back the same, and an accepted file is the one its table is written to.
+#[test]
+#[cfg_attr(not(all(has_sps_read_table, has_sps_write_table)), ignore = "absent")]
+fn there_and_back() {
+    for_each_file(10, |file, _| {
+        let mut bytes = vec![0xee; 6 + 5 * file.entries.len()];
+        let written = ffi::write_table(file.n, file.m, &file.entries, &mut bytes) >> 32;
+        bytes.truncate(written as usize);
+        let mut table = vec![u32::MAX; file.entries.len()];
+        assert_eq!(ffi::read_table(&bytes, &mut table), packed(Ok((file.n, file.m))));
+        assert_eq!(table, file.entries);
+    });
+    let random = &mut Random::new(26);
+    let mut accepted = 0;
+    for _ in 0..50_000 {
+        let bytes = nearly_a_file(random);
+        let mut table = vec![0; header(&bytes).map_or(1, |(n, _)| 1 << n)];
+        let answer = ffi::read_table(&bytes, &mut table);
+        if answer < 1 << 40 {
+            accepted += 1;
+            let mut again = vec![0xee; bytes.len()];
+            let written = ffi::write_table((answer >> 32) as u32, answer as u32, &table, &mut again);
+            assert_eq!(written, (bytes.len() as u64) << 32, "{bytes:02x?}");
+            assert_eq!(again, bytes);
+        }
+    }
+    assert!(accepted > 10_000);
+}
