@@ -1,0 +1,291 @@
+// The ranked subset product of 001 section 1, on rows. Row h has 2n + 2 numbers. On the way down the two factors lie side by
+// side, the left one's rank k at 2k and the right one's at 2k + 1; from one entry up, the row holds the result's rank k at k.
+ghost use mathlib.Core.Path.{_≡_};
+ghost use Prim.Native.Nat.{ℕ, _+_, _-_, _*_, _%_, _^_, _≤_, _<_, min};
+ghost use lib.ListN.{length};
+ghost use Rattle.definitions.specs.Sets.{size};
+ghost use Rattle.definitions.specs.Products.{subsetTable};
+ghost use Rattle.residues.specs.Moduli.{Valid, Residue};
+ghost use Rattle.ranked_theory.specs.Rows.{plus, minus, stored, Run, RunReady, Added, Subtracted, RowStep, RowReady, RowsStep, RowsReady, coefficientCount, coefficient, RowOfResidues, Coefficients, Stored, Multiplied};
+ghost use Rattle.ranked_theory.specs.Recursion.{width, Ready, Worked, Laid, LaidLeft, Room, LaidOut, ReadOff, FactorsReady, ProductOfLaid, TablesReady};
+use residues::Accumulator;
+use residues::Modulus;
+use sets::SetCode;
+use sets::SetSize;
+
+fn power_of_two(p: usize) -> usize
+    requires { ⌜ p ≤ 16 ⌝ }
+    ensures { λ r. ⌜ r ≡ 2 ^ p ⌝ }
+{
+    1 << p
+}
+
+fn lesser(a: SetSize, b: SetSize) -> SetSize
+    ensures { λ r. ⌜ r .0 ≡ min (a .0) (b .0) ⌝ }
+{
+    if a.0 <= b.0 { a } else { b }
+}
+
+fn row_width(n: usize) -> usize
+    requires { ⌜ n ≤ 16 ⌝ }
+    ensures { λ r. ⌜ r ≡ width n ⌝ }
+{
+    2 * n + 2
+}
+
+// rows[hi + i] += rows[lo + i] for i < count.
+fn add_run(modulus: Modulus, lo: usize, hi: usize, count: usize, rows: &mut [u32])
+    requires { ⌜ Valid modulus ⌝ }
+    requires { ⌜ RunReady (modulus .value) lo hi count (now rows) ⌝ }
+    ensures { λ _. ⌜ Run (plus (modulus .value)) lo hi count (now (rows .entry)) (now (rows .exit)) ⌝ }
+{
+    let mut i = 0;
+    while i < count {
+        let h = hi + i;
+        let l = lo + i;
+        rows[h] = modulus.add(rows[h], rows[l]);
+        i += 1;
+    }
+}
+
+// rows[hi + i] -= rows[lo + i] for i < count.
+fn subtract_run(modulus: Modulus, lo: usize, hi: usize, count: usize, rows: &mut [u32])
+    requires { ⌜ Valid modulus ⌝ }
+    requires { ⌜ RunReady (modulus .value) lo hi count (now rows) ⌝ }
+    ensures { λ _. ⌜ Run (minus (modulus .value)) lo hi count (now (rows .entry)) (now (rows .exit)) ⌝ }
+{
+    let mut i = 0;
+    while i < count {
+        let h = hi + i;
+        let l = lo + i;
+        rows[h] = modulus.subtract(rows[h], rows[l]);
+        i += 1;
+    }
+}
+
+// rows[hi] and the number after it become rows[lo] and the one after that.
+fn store_pair(lo: usize, hi: usize, rows: &mut [u32])
+    requires { ⌜ (lo + 2 ≤ hi) × (hi + 2 ≤ length (now rows)) ⌝ }
+    ensures { λ _. ⌜ Run stored lo hi 2 (now (rows .entry)) (now (rows .exit)) ⌝ }
+{
+    let left = rows[lo];
+    let next = lo + 1;
+    let right = rows[next];
+    rows[hi] = left;
+    let above = hi + 1;
+    rows[above] = right;
+}
+
+// Step 1 for one row u of the lower half, at its ranks |u| to |u| + d: 001's |h| - |h0| to |h|. The row above it has nothing at
+// rank |u| yet, so that rank is stored.
+fn add_row(modulus: Modulus, d: SetSize, w: usize, mid: usize, u: SetCode, rows: &mut [u32])
+    requires { ⌜ Valid modulus ⌝ }
+    requires { ⌜ RowReady (modulus .value) (2 * size (u .0) + 2) (2 * d .0) w mid (u .0) (now rows) ⌝ }
+    ensures { λ _. ⌜ RowStep (Added (modulus .value) (d .0) (size (u .0))) w mid (u .0) (now (rows .entry)) (now (rows .exit)) ⌝ }
+{
+    let rank = u.size();
+    let low = u.0 * w + 2 * rank.0;
+    store_pair(low, mid + low, rows);
+    let next = low + 2;
+    add_run(modulus, next, mid + next, 2 * d.0, rows);
+}
+
+// Step 1: each row of the upper half takes the row of the lower half.
+fn add_lower(modulus: Modulus, p: usize, d: SetSize, w: usize, rows: &mut [u32])
+    requires { ⌜ Valid modulus ⌝ }
+    requires { ⌜ RowsReady (modulus .value) (λ u. 2 * size u + 2) (λ u. 2 * d .0) w p (now rows) ⌝ }
+    ensures { λ _. ⌜ RowsStep (λ u. Added (modulus .value) (d .0) (size u)) w (2 ^ p * w) (2 ^ p) (now (rows .entry)) (now (rows .exit)) ⌝ }
+{
+    let half = power_of_two(p);
+    let mid = half * w;
+    let mut u = 0;
+    while u < half {
+        add_row(modulus, d, w, mid, SetCode(u), rows);
+        u += 1;
+    }
+}
+
+// Step 2 for one row u of the lower half: from its size |h| = |u| + d to |h| + e, and none past 2 |h|.
+fn subtract_row(
+    modulus: Modulus,
+    d: SetSize,
+    e: SetSize,
+    w: usize,
+    mid: usize,
+    u: SetCode,
+    rows: &mut [u32],
+)
+    requires { ⌜ Valid modulus ⌝ }
+    requires { ⌜ RowReady (modulus .value) (size (u .0) + d .0) (min (e .0) (size (u .0) + d .0) + 1) w mid (u .0) (now rows) ⌝ }
+    ensures { λ _. ⌜ RowStep (Subtracted (modulus .value) (e .0) (size (u .0) + d .0)) w mid (u .0) (now (rows .entry)) (now (rows .exit)) ⌝ }
+{
+    let low = u.size();
+    let whole = SetSize(low.0 + d.0);
+    let first = u.0 * w + whole.0;
+    let more = lesser(e, whole);
+    subtract_run(modulus, first, mid + first, more.0 + 1, rows);
+}
+
+// Step 2: each row of the upper half loses the row of the lower half.
+fn subtract_lower(modulus: Modulus, p: usize, d: SetSize, e: SetSize, w: usize, rows: &mut [u32])
+    requires { ⌜ Valid modulus ⌝ }
+    requires { ⌜ RowsReady (modulus .value) (λ u. size u + d .0) (λ u. min (e .0) (size u + d .0) + 1) w p (now rows) ⌝ }
+    ensures { λ _. ⌜ RowsStep (λ u. Subtracted (modulus .value) (e .0) (size u + d .0)) w (2 ^ p * w) (2 ^ p) (now (rows .entry)) (now (rows .exit)) ⌝ }
+{
+    let half = power_of_two(p);
+    let mid = half * w;
+    let mut u = 0;
+    while u < half {
+        subtract_row(modulus, d, e, w, mid, SetCode(u), rows);
+        u += 1;
+    }
+}
+
+// Rank d + e of the product of a row's factors, neither of which goes above d.
+fn product_rank(modulus: Modulus, d: SetSize, e: SetSize, row: &[u32]) -> u32
+    requires { ⌜ Valid modulus ⌝ }
+    requires { ⌜ RowOfResidues (modulus .value) (d .0) (d .0) (now row) ⌝ }
+    requires { ⌜ e .0 ≤ d .0 ⌝ }
+    ensures { λ r. ⌜ Residue (modulus .value) (coefficient (d .0) (e .0) (now (row .entry))) r ⌝ }
+{
+    let count = d.0 - e.0 + 1;
+    let mut total = Accumulator::start();
+    let mut i = 0;
+    while i < count {
+        let left = 2 * (e.0 + i);
+        let right = 2 * (d.0 - i) + 1;
+        total = total.add_product(modulus, row[left], row[right]);
+        i += 1;
+    }
+    total.residue(modulus)
+}
+
+// Ranks d, d + 1, .. of the product of a row's factors, count of them.
+fn product_ranks(modulus: Modulus, d: SetSize, count: usize, row: &[u32]) -> [u32; 17]
+    requires { ⌜ Valid modulus ⌝ }
+    requires { ⌜ RowOfResidues (modulus .value) (d .0) (d .0) (now row) ⌝ }
+    requires { ⌜ count ≤ d .0 + 1 ⌝ }
+    ensures { λ r. ⌜ Coefficients (modulus .value) (d .0) count (now (row .entry)) r ⌝ }
+{
+    let mut ranks = [0u32; 17];
+    let mut e = 0;
+    while e < count {
+        ranks[e] = product_rank(modulus, d, SetSize(e), row);
+        e += 1;
+    }
+    ranks
+}
+
+// The first count of the ranks, from rank d on.
+fn store_ranks(d: SetSize, count: usize, ranks: [u32; 17], row: &mut [u32])
+    requires { ⌜ (count ≤ 17) × (d .0 + count ≤ length (now row)) ⌝ }
+    ensures { λ _. ⌜ Stored (d .0) count ranks (now (row .entry)) (now (row .exit)) ⌝ }
+{
+    let mut e = 0;
+    while e < count {
+        let k = d.0 + e;
+        row[k] = ranks[e];
+        e += 1;
+    }
+}
+
+// Step 3: the ranks from |h0| = d to 2d, and none past n.
+fn multiply_row(n: usize, modulus: Modulus, d: SetSize, row: &mut [u32])
+    requires { ⌜ Valid modulus ⌝ }
+    requires { ⌜ RowOfResidues (modulus .value) n (d .0) (now row) ⌝ }
+    ensures { λ _. ⌜ Multiplied (modulus .value) n (d .0) (now (row .entry)) (now (row .exit)) ⌝ }
+{
+    let more = lesser(SetSize(n - d.0), d);
+    let count = more.0 + 1;
+    let ranks = product_ranks(modulus, d, count, row);
+    store_ranks(d, count, ranks, row);
+}
+
+// The recursion on 2^q rows whose codes share d = |h0| controls above the low q.
+pub fn ranked_product(n: usize, modulus: Modulus, q: usize, d: SetSize, rows: &mut [u32])
+    requires { ⌜ Valid modulus ⌝ }
+    requires { ⌜ Ready (modulus .value) n q (d .0) (now rows) ⌝ }
+    ensures { λ _. ⌜ Worked (modulus .value) n q (d .0) (now (rows .entry)) (now (rows .exit)) ⌝ }
+{
+    if q == 0 {
+        multiply_row(n, modulus, d, rows);
+    } else {
+        let p = q - 1;
+        let w = row_width(n);
+        let mid = power_of_two(p) * w;
+        add_lower(modulus, p, d, w, rows);
+        ranked_product(n, modulus, p, d, &mut rows[..mid]);
+        ranked_product(n, modulus, p, SetSize(d.0 + 1), &mut rows[mid..]);
+        subtract_lower(modulus, p, d, SetSize(n - p - d.0), w, rows);
+    }
+}
+
+// a[h] becomes rank |h| of row h in the factor at that side, 0 the left one and 1 the right one.
+fn lay_out(n: usize, side: usize, a: &[u32], rows: &mut [u32])
+    requires { ⌜ Room n (now a) (now rows) ⌝ }
+    requires { ⌜ side ≤ 1 ⌝ }
+    ensures { λ _. ⌜ LaidOut n side (now (a .entry)) (now (rows .entry)) (now (rows .exit)) ⌝ }
+{
+    let w = row_width(n);
+    let mut h = 0;
+    while h < a.len() {
+        let code = SetCode(h);
+        let rank = code.size();
+        let place = h * w + (2 * rank.0 + side);
+        rows[place] = a[h];
+        h += 1;
+    }
+}
+
+// Lays the left factor out in the rows, whatever they held.
+pub fn lay_out_left(n: usize, a: &[u32], rows: &mut [u32])
+    requires { ⌜ Room n (now a) (now rows) ⌝ }
+    ensures { λ _. ⌜ LaidLeft n (now (a .entry)) (now (rows .exit)) ⌝ }
+{
+    lay_out(n, 0, a, rows);
+}
+
+// The result: result[h] is rank |h| of row h.
+fn read_off(n: usize, rows: &[u32], result: &mut [u32])
+    requires { ⌜ Room n (now result) (now rows) ⌝ }
+    ensures { λ _. ⌜ ReadOff n (now (rows .entry)) (now (result .exit)) ⌝ }
+{
+    let w = row_width(n);
+    let mut h = 0;
+    while h < result.len() {
+        let code = SetCode(h);
+        let rank = code.size();
+        let place = h * w + rank.0;
+        result[h] = rows[place];
+        h += 1;
+    }
+}
+
+// The subset product of the left factor, which is laid out in the rows, and b.
+pub fn multiply_laid(n: usize, modulus: Modulus, b: &[u32], result: &mut [u32], rows: &mut [u32])
+    requires { ⌜ Valid modulus ⌝ }
+    requires { ⌜ FactorsReady (modulus .value) n (now b) (now result) (now rows) ⌝ }
+    ensures { λ _. ⌜ ProductOfLaid (modulus .value) n (now (b .entry)) (now (rows .entry)) (now (result .exit)) ⌝ }
+{
+    lay_out(n, 1, b, rows);
+    let used = power_of_two(n) * row_width(n);
+    ranked_product(n, modulus, n, SetSize(0), &mut rows[..used]);
+    read_off(n, rows, result);
+}
+
+// The subset product of a and b.
+pub fn product(
+    n: usize,
+    modulus: Modulus,
+    a: &[u32],
+    b: &[u32],
+    result: &mut [u32],
+    rows: &mut [u32],
+)
+    requires { ⌜ Valid modulus ⌝ }
+    requires { ⌜ TablesReady (modulus .value) n (now a) (now b) (now result) (now rows) ⌝ }
+    ensures { λ _. ⌜ now (result .exit) ≡ subsetTable n (modulus .value) (now (a .entry)) (now (b .entry)) ⌝ }
+{
+    lay_out_left(n, a, rows);
+    multiply_laid(n, modulus, b, result, rows);
+}

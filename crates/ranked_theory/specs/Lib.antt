@@ -1,0 +1,11 @@
+pub mod Convolution
+pub mod Cover
+pub mod Lowest
+pub mod Rows
+pub mod Recursion
+pub mod Places
+pub mod RowSteps
+pub mod Levels
+pub mod Halves
+pub mod Turns
+pub mod Tables

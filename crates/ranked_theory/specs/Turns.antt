@@ -1,0 +1,107 @@
+-- One level of the recursion as its code goes: q controls, p below the top one, rows of w numbers, mid where the upper half starts.
+use mathlib.Core.Path.{_≡_, refl, sym, ap, ap₂, subst, _∙_}
+use mathlib.Core.List.{List, _++_}
+use Prim.Native.Nat.{ℕ, zero, suc, _+_, _-_, _*_, _^_, _≤_, _<_, min}
+use native.Mathlib.Nat.{one-mul, le-of-eq}
+use native.Mathlib.Numerals.{sub-one}
+use native.Mathlib.Omega.{arith}
+use lib.ListN.{length, take, drop, length-append, length-drop}
+use borrow.Rule.Slice.PartMut.{putMid}
+use Rattle.definitions.specs.Sets.{size}
+use Rattle.ranked_theory.specs.Rows.{Added, Subtracted, RowsStep, RowsReady, RowOfResidues, Multiplied}
+use Rattle.ranked_theory.specs.Recursion.{width, Ready, Worked}
+use Rattle.ranked_theory.specs.Levels as level
+use Rattle.ranked_theory.specs.Halves.{first-length, both-length, second, joined}
+
+-- step (1) at this level
+abbrev pub Down : ℕ → ℕ → ℕ → ℕ → List ℕ → List ℕ → Type 0
+Down m p d w xs ys = RowsStep (λ u. Added m d (size u)) w (2 ^ p * w) (2 ^ p) xs ys
+
+-- step (2)
+abbrev pub Up : ℕ → ℕ → ℕ → ℕ → ℕ → List ℕ → List ℕ → Type 0
+Up m n p d w xs ys = RowsStep (λ u. Subtracted m (n - p - d) (size u + d)) w (2 ^ p * w) (2 ^ p) xs ys
+
+pub record Level (m n q p d mid w : ℕ) (xs : List ℕ) : Type 0 where
+  pub long : length xs ≡ mid + mid
+  pub down-ready : RowsReady m (λ u. 2 * size u + 2) (λ u. 2 * d) w p xs
+  pub first-ready : (ys : List ℕ) → Down m p d w xs ys → length ys ≡ length xs → Ready m n p d (take mid ys)
+  pub second-ready : (ys : List ℕ) → Down m p d w xs ys → length ys ≡ length xs → Ready m n p (d + 1) (drop mid ys)
+  pub up-ready : (ys l k : List ℕ) → Down m p d w xs ys → length ys ≡ length xs → Worked m n p d (take mid ys) l → Worked m n p (d + 1) (drop mid ys) k
+      → length l ≡ mid → length k ≡ mid → RowsReady m (λ u. size u + d) (λ u. min (n - p - d) (size u + d) + 1) w p (l ++ k)
+  pub up : (ys l k zs : List ℕ) → Down m p d w xs ys → length ys ≡ length xs → Worked m n p d (take mid ys) l → Worked m n p (d + 1) (drop mid ys) k
+      → length l ≡ mid → length k ≡ mid → Up m n p d w (l ++ k) zs → Worked m n q d xs zs
+
+level-of : (m n p d : ℕ) (xs : List ℕ) → 0 < m → Ready m n (suc p) d xs → Level m n (suc p) p d (2 ^ p * width n) (width n) xs
+level-of m n p d xs pos ready =
+    record {
+      long = level.long m n p d pos xs ready;
+      down-ready = level.down-ready m n p d pos xs ready;
+      first-ready = level.first-ready m n p d pos xs ready;
+      second-ready = level.second-ready m n p d pos xs ready;
+      up-ready = λ ys l k down same. level.up-ready m n p d pos xs ready ys down same l k;
+      up = λ ys l k zs down same first second ll lk. level.up m n p d pos xs ready ys down same l k first second ll lk zs;
+    }
+
+pub turn : (m n q d half w : ℕ) (xs : List ℕ) → 0 < m → (q ≡ 0 → ⊥) → half ≡ 2 ^ (q - 1) → w ≡ width n → Ready m n q d xs → Level m n q (q - 1) d (half * w) w xs
+turn m n zero d half w xs pos some eh ew ready = absurd (some refl)
+turn m n (suc p) d half w xs pos some eh ew ready =
+    let e : suc p - 1 ≡ p = sub-one (suc p) in
+    subst (λ (k : ℕ). Level m n (suc p) k d (half * w) w xs) (sym e)
+    (subst (λ (h : ℕ). Level m n (suc p) p d (h * w) w xs) (sym (eh ∙ ap (λ (k : ℕ). 2 ^ k) e))
+    (subst (λ (v : ℕ). Level m n (suc p) p d (2 ^ p * v) v xs) (sym ew) (level-of m n p d xs pos ready)))
+
+-- one entry: no control is left
+pub leaf-row : (m n q d : ℕ) (xs : List ℕ) → q ≡ 0 → Ready m n q d xs → RowOfResidues m n d xs
+leaf-row m n q d xs e ready = level.leaf-row m n d xs (subst (λ (k : ℕ). Ready m n k d xs) e ready)
+
+pub leaf : (m n q d : ℕ) (xs ys : List ℕ) → 0 < m → q ≡ 0 → Ready m n q d xs → Multiplied m n d xs ys → Worked m n q d xs ys
+leaf m n q d xs ys pos e ready made =
+    subst (λ (k : ℕ). Worked m n k d xs ys) (sym e) (level.leaf m n d xs (subst (λ (k : ℕ). Ready m n k d xs) e ready) pos ys made)
+
+-- ---- the two calls, on the halves as they are lent
+
+module _ (m n q p d mid w : ℕ) (xs : List ℕ) (level : Level m n q p d mid w xs) (ys : List ℕ) (down : Down m p d w xs ys) (same : length ys ≡ length xs) where
+  ys-long : length ys ≡ mid + mid
+  ys-long = same ∙ level .long
+
+  pub mid-fits : mid ≤ length ys
+  mid-fits = omega (arith, ys-long)
+
+  pub first-long : length (take mid ys) ≡ mid
+  first-long = lib.Seq.length-take-le mid ys mid-fits
+
+  module _ (l : List ℕ) (kept : length l ≡ length (take mid ys)) where
+    -- the list while the first half has come back
+    abbrev between : List ℕ
+    between = l ++ drop mid ys
+
+    pub mid-in : mid ≤ length between
+    mid-in = omega (arith, both-length mid ys l ys-long kept)
+
+    second-is : take (length between - mid) (drop mid between) ≡ drop mid ys
+    second-is = second mid ys l ys-long kept
+
+    pub lent-ready : Ready m n p (d + 1) (take (length between - mid) (drop mid between))
+    lent-ready = subst (Ready m n p (d + 1)) (sym second-is) (level .second-ready ys down same)
+
+    module _ (first : Worked m n p d (take mid ys) l) (k : List ℕ) (back : Worked m n p (d + 1) (take (length between - mid) (drop mid between)) k)
+        (kept-k : length k ≡ length (take (length between - mid) (drop mid between))) where
+      after : Worked m n p (d + 1) (drop mid ys) k
+      after = subst (λ (v : List ℕ). Worked m n p (d + 1) v k) second-is back
+
+      k-long : length k ≡ mid
+      k-long = kept-k ∙ ap length second-is ∙ length-drop mid ys ∙ omega (arith, ys-long)
+
+      l-long : length l ≡ mid
+      l-long = first-length mid ys l ys-long kept
+
+      whole : putMid mid (length between - mid) between k ≡ l ++ k
+      whole = joined mid ys l ys-long kept k
+
+      pub back-ready : RowsReady m (λ u. size u + d) (λ u. min (n - p - d) (size u + d) + 1) w p (putMid mid (length between - mid) between k)
+      back-ready =
+          subst (RowsReady m (λ u. size u + d) (λ u. min (n - p - d) (size u + d) + 1) w p) (sym whole)
+          (level .up-ready ys l k down same first after l-long k-long)
+
+      pub done : (zs : List ℕ) → Up m n p d w (putMid mid (length between - mid) between k) zs → Worked m n q d xs zs
+      done zs up = level .up ys l k zs down same first after l-long k-long (subst (λ (v : List ℕ). Up m n p d w v zs) whole up)
