@@ -11,7 +11,7 @@ use borrow.Author.Tests.{eqb-true, eq-eqb, not-false, ltb-false, le-ltb}
 use Rattle.definitions.specs.Limits.{mostControls, lowestModulus, largestModulus, padLength}
 use Rattle.definitions.specs.Sums.{at}
 use Rattle.definitions.specs.Partitions.{allBelow}
-use Rattle.definitions.specs.Refusals.{wordIf, orElse, firstWord, panelWord, modulusWord, tableWord, rowWord, padWord, entryWord, startWord, sumNumber, binomialNumber, productNumber, singleNumber, exponentialNumber, logarithmNumber, compositionNumber}
+use Rattle.definitions.specs.Refusals.{wordIf, orElse, firstWord, panelWord, modulusWord, tableWord, rowWord, padWord, entryWord, startWord, AcceptedTable, AcceptedRow, sumNumber, binomialNumber, productNumber, singleNumber, exponentialNumber, logarithmNumber, compositionNumber}
 use Rattle.theory.specs.Entries.{below-anywhere, at-below}
 use Rattle.checks.specs.Words.{orElse-first, orElse-second, no-word, all-zero, _and_, AllZero}
 
@@ -230,6 +230,15 @@ module _ (n m : ℕ) (a : List ℕ) (r p : ℕ) where
   abbrev pub startNumber : ℕ → ℕ
   startNumber first = orElse (singleNumber n m a r p) (startWord first a)
 
+  pub start-accepted : (first : ℕ) → startNumber first ≡ 0 → Single n m a r p × (at a 0 ≡ first)
+  start-accepted first e = (
+    single-accepted (orElse-first (singleNumber n m a r p) _ e),
+    right-start first a (orElse-second (singleNumber n m a r p) _ e),
+  )
+
+  pub start-accepts : (first : ℕ) → Single n m a r p → at a 0 ≡ first → startNumber first ≡ 0
+  start-accepts first h e = single-accepts h and start-right first a e
+
   pub exponential-number : exponentialNumber n m a r p ≡ startNumber 0
   unfolding exponentialNumber
   exponential-number = refl
@@ -290,7 +299,10 @@ module _ (n m : ℕ) (a f : List ℕ) (r p : ℕ) where
       and start-right 0 a (h .start)
       and refl
 
--- ---- one table alone: the writer, before its buffer is looked at
+-- ---- one list alone: 01's *accepted* table or row, and the writer before its buffer is looked at
+
+abbrev pub listNumber : ℕ → ℕ → ℕ → List ℕ → ℕ
+listNumber n m long a = firstWord (panelWord n ∷ modulusWord m ∷ lengthWord long (length a) ∷ entryWord m a ∷ [])
 
 abbrev pub tableWords : ℕ → ℕ → List ℕ → List ℕ
 tableWords n m a = tableWord n (length a) ∷ entryWord m a ∷ []
@@ -298,12 +310,26 @@ tableWords n m a = tableWord n (length a) ∷ entryWord m a ∷ []
 abbrev pub tableNumber : ℕ → ℕ → List ℕ → ℕ
 tableNumber n m a = firstWord (panelWord n ∷ modulusWord m ∷ tableWords n m a)
 
+module _ (n m long : ℕ) (a : List ℕ) where
+  list-facts :
+      AllZero (panelWord n ∷ modulusWord m ∷ lengthWord long (length a) ∷ entryWord m a ∷ []) → InRange n m × Entries long m a
+  list-facts (k, (q, (la, (ea, z)))) = let i = in-range k q in (i, entries i la ea)
+
+  pub list-accepted : listNumber n m long a ≡ 0 → InRange n m × Entries long m a
+  list-accepted e = list-facts (all-zero (panelWord n ∷ modulusWord m ∷ lengthWord long (length a) ∷ entryWord m a ∷ []) e)
+
+  pub list-accepts : InRange n m → Entries long m a → listNumber n m long a ≡ 0
+  list-accepts i h = range-panel i and range-modulus i and entries-length h and entries-below h and refl
+
 module _ (n m : ℕ) (a : List ℕ) where
-  table-facts : AllZero (panelWord n ∷ modulusWord m ∷ tableWords n m a) → InRange n m × IsTable n m a
-  table-facts (k, (q, (la, (ea, z)))) = let i = in-range k q in (i, entries i la ea)
+  pub table-accepted : AcceptedTable n m a → InRange n m × IsTable n m a
+  table-accepted e = list-accepted n m (2 ^ n) a e
 
-  pub table-accepted : tableNumber n m a ≡ 0 → InRange n m × IsTable n m a
-  table-accepted e = table-facts (all-zero (panelWord n ∷ modulusWord m ∷ tableWords n m a) e)
+  pub table-accepts : InRange n m → IsTable n m a → AcceptedTable n m a
+  table-accepts i h = list-accepts n m (2 ^ n) a i h
 
-  pub table-accepts : InRange n m → IsTable n m a → tableNumber n m a ≡ 0
-  table-accepts i h = range-panel i and range-modulus i and entries-length h and entries-below h and refl
+  pub row-accepted : AcceptedRow n m a → InRange n m × IsRow n m a
+  row-accepted e = list-accepted n m (n + 1) a e
+
+  pub row-accepts : InRange n m → IsRow n m a → AcceptedRow n m a
+  row-accepts i h = list-accepts n m (n + 1) a i h

@@ -7,7 +7,7 @@ use native.Mathlib.Omega.{arith}
 use Rattle.definitions.specs.Refusals.{orElse, after, valueAfter}
 use Rattle.residues.specs.Moduli.{Valid}
 use Rattle.residues.specs.declared.Modulus.{Modulus}
-use Rattle.checks.specs.Words.{orElse-stop, orElse-go, refused-list, done-list, refused-value, done-value}
+use Rattle.checks.specs.Words.{orElse-stop, orElse-go, refused-list, refused-value}
 use Rattle.checks.specs.declared.Checked.{Checked}
 use Rattle.checks.specs.declared.Checked.the-variants.{Accepted, Refused}
 
@@ -88,15 +88,9 @@ module _ {m k : ℕ} {r : Checked} (h : IsChecked m k r) where
   pub word-value : {w : ℕ} → r ≡ Refused w → (v : ℕ) → 0 ≡ valueAfter w v
   word-value {w} e v = refused-value w v (h .word w e)
 
-  -- and by the number that the definitions give, at the end of a refused call and of an accepted one
+  -- and by the number that the definitions give
   pub kept : {w : ℕ} → r ≡ Refused w → (new old : List ℕ) → old ≡ after k new old
   kept e new old = refused-list k new old (not-accepted e)
 
   pub no-value : {w : ℕ} → r ≡ Refused w → (v : ℕ) → 0 ≡ valueAfter k v
   no-value e v = refused-value k v (not-accepted e)
-
-  pub written : {modulus : Modulus} → r ≡ Accepted modulus → (new old : List ℕ) {last : List ℕ} → last ≡ new → last ≡ after k new old
-  written e new old f = done-list new old (accepted e) f
-
-  pub returned : {modulus : Modulus} → r ≡ Accepted modulus → (v : ℕ) {last : ℕ} → last ≡ v → last ≡ valueAfter k v
-  returned e v f = done-value v (accepted e) f

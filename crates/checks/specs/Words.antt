@@ -1,6 +1,6 @@
--- Laws of the words of refusal: 0 accepts, and of a list of tests the first word that is not 0 counts. Then what lent memory
--- holds at the end of a call that is refused and of one that is done.
-use mathlib.Core.Path.{_≡_, refl, sym, _∙_, ap}
+-- Laws of the words of refusal: 0 accepts, and of a list of tests the first word that is not 0 counts. Then what a refused
+-- call leaves.
+use mathlib.Core.Path.{_≡_, refl, _∙_, ap}
 use mathlib.Core.Bool.{Bool, true, false}
 use mathlib.Core.List.{List, [], _∷_}
 use Prim.Native.Nat.{ℕ, zero, suc}
@@ -48,18 +48,12 @@ infixr 20 _and_
 pub _and_ : {j k : ℕ} → j ≡ 0 → k ≡ 0 → orElse j k ≡ 0
 _and_ {j} {k} e f = orElse-go j k e ∙ f
 
--- ---- the end of a call whose number is k: memory that it was lent, and what it returns beside the number
+-- ---- a refused call whose number is k: memory that it was lent, and what it returns beside the number
 
 pub refused-list : (k : ℕ) (new old : List ℕ) → (k ≡ 0 → ⊥) → old ≡ after k new old
 refused-list zero new old h = absurd (h refl)
 refused-list (suc k) new old h = refl
 
-pub done-list : {k : ℕ} (new old : List ℕ) {last : List ℕ} → k ≡ 0 → last ≡ new → last ≡ after k new old
-done-list new old e f = f ∙ sym (ap (λ (j : ℕ). after j new old) e)
-
 pub refused-value : (k v : ℕ) → (k ≡ 0 → ⊥) → 0 ≡ valueAfter k v
 refused-value zero v h = absurd (h refl)
 refused-value (suc k) v h = refl
-
-pub done-value : {k : ℕ} (v : ℕ) {last : ℕ} → k ≡ 0 → last ≡ v → last ≡ valueAfter k v
-done-value v e f = f ∙ sym (ap (λ (j : ℕ). valueAfter j v) e)
