@@ -1,0 +1,7 @@
+mod Blocks
+mod Table
+mod Controls
+mod Filling
+mod Halving
+mod Steps
+mod Calls

@@ -1,0 +1,297 @@
+// Union and xor product: transforms that act on one control at a time turn each of them into a product entry by entry.
+// With n controls a transform, and so a product, takes some n · 2^n steps.
+ghost use mathlib.Core.Path.{_≡_};
+ghost use Prim.Native.Nat.{_+_, _-_, _*_, _%_, _^_, _<_};
+ghost use lib.ListN.{length};
+ghost use Rattle.definitions.specs.Limits.{padLength};
+ghost use Rattle.definitions.specs.Sums.{tabulate, at};
+ghost use Rattle.definitions.specs.Products.{residues, unionTable, xorTable};
+ghost use Rattle.definitions.specs.Refusals.{productNumber, xorNumber, halvingWord, after, cleared, padAfter};
+ghost use Rattle.theory.specs.Passes.{crossed, pass};
+ghost use Rattle.theory.specs.Convolution.{pointTable};
+ghost use Rattle.residues.specs.Moduli.{Valid, Below};
+ghost use Rattle.checks.specs.Accepted.{Entries};
+ghost use Rattle.checks.specs.Answers.{IsChecked};
+ghost use Rattle.transforms.specs.Steps.{lowerOf, upperOf, Gives, Ready, Transformed, Inputs, Halves, products};
+use checks::Checked;
+use residues::Modulus;
+
+// What a transform does with one control: from x and y, the entries of a set without the control and of the set with it, come
+// the new entries of the two.
+enum Transform {
+    // x and y + x: over all controls, the sums over subsets
+    Zeta,
+    // x and y - x, which takes these back
+    Moebius,
+    // x + y and x - y; made twice it multiplies by 2 for each control
+    Walsh,
+}
+
+impl Transform {
+    // The new entry of the set without the control.
+    fn lower(self, modulus: Modulus, x: u32, y: u32) -> u32
+        requires { ⌜ Valid modulus ⌝ }
+        requires { ⌜ Below (modulus .value) x y ⌝ }
+        ensures { λ r. ⌜ Gives (modulus .value) (lowerOf (modulus .value) self x y) r ⌝ }
+    {
+        match self {
+            Transform::Zeta => x,
+            Transform::Moebius => x,
+            Transform::Walsh => modulus.add(x, y),
+        }
+    }
+
+    // The new entry of the set with the control.
+    fn upper(self, modulus: Modulus, x: u32, y: u32) -> u32
+        requires { ⌜ Valid modulus ⌝ }
+        requires { ⌜ Below (modulus .value) x y ⌝ }
+        ensures { λ r. ⌜ Gives (modulus .value) (upperOf (modulus .value) self x y) r ⌝ }
+    {
+        match self {
+            Transform::Zeta => modulus.add(y, x),
+            Transform::Moebius => modulus.subtract(y, x),
+            Transform::Walsh => modulus.subtract(x, y),
+        }
+    }
+
+    // One control in a block: the entries of sets without it, and behind them those of the same sets with it.
+    fn cross(self, modulus: Modulus, half: usize, block: &mut [u32])
+        requires { ⌜ Valid modulus ⌝ }
+        requires { ⌜ Entries (half + half) (modulus .value) (now block) ⌝ }
+        ensures { λ _. ⌜ now (block .exit) ≡ crossed (lowerOf (modulus .value) self) (upperOf (modulus .value) self) half (now (block .entry)) ⌝ }
+    {
+        let mut t = 0;
+        while t < half {
+            let with = half + t;
+            let x = block[t];
+            let y = block[with];
+            block[t] = self.lower(modulus, x, y);
+            block[with] = self.upper(modulus, x, y);
+            t += 1;
+        }
+    }
+
+    // Control i in a table of n controls.
+    fn pass(self, n: u32, modulus: Modulus, i: u32, table: &mut [u32])
+        requires { ⌜ Ready n modulus (now table) ⌝ }
+        requires { ⌜ i < n ⌝ }
+        ensures { λ _. ⌜ now (table .exit) ≡ tabulate (2 ^ n) (pass (lowerOf (modulus .value) self) (upperOf (modulus .value) self) i (at (now (table .entry)))) ⌝ }
+    {
+        let half = checks::power(i);
+        let width = half + half;
+        let blocks = checks::power(n - i - 1);
+        let mut block = 0;
+        while block < blocks {
+            let start = block * width;
+            let end = start + width;
+            self.cross(modulus, half, &mut table[start..end]);
+            block += 1;
+        }
+    }
+
+    // All controls of a table.
+    fn apply(self, n: u32, modulus: Modulus, table: &mut [u32])
+        requires { ⌜ Ready n modulus (now table) ⌝ }
+        ensures { λ _. ⌜ Transformed (modulus .value) self n (now (table .entry)) (now (table .exit)) ⌝ }
+    {
+        let mut i = 0;
+        while i < n {
+            self.pass(n, modulus, i, table);
+            i += 1;
+        }
+    }
+}
+
+fn copy(from: &[u32], to: &mut [u32])
+    requires { ⌜ length (now from) ≡ length (now to) ⌝ }
+    ensures { λ _. ⌜ now (to .exit) ≡ now (from .entry) ⌝ }
+{
+    let mut i = 0;
+    while i < to.len() {
+        to[i] = from[i];
+        i += 1;
+    }
+}
+
+// Entry by entry, the table times another.
+fn multiply(n: u32, modulus: Modulus, other: &[u32], table: &mut [u32])
+    requires { ⌜ Ready n modulus (now other) ⌝ }
+    requires { ⌜ Ready n modulus (now table) ⌝ }
+    ensures { λ _. ⌜ now (table .exit) ≡ pointTable n (modulus .value) (now (table .entry)) (now (other .entry)) ⌝ }
+{
+    let mut i = 0;
+    while i < table.len() {
+        table[i] = modulus.multiply(table[i], other[i]);
+        i += 1;
+    }
+}
+
+// Every entry times a factor.
+fn scale(n: u32, modulus: Modulus, factor: u32, table: &mut [u32])
+    requires { ⌜ factor < modulus .value ⌝ }
+    requires { ⌜ Ready n modulus (now table) ⌝ }
+    ensures { λ _. ⌜ now (table .exit) ≡ residues n (modulus .value) (λ S. factor * at (now (table .entry)) S) ⌝ }
+{
+    let mut i = 0;
+    while i < table.len() {
+        table[i] = modulus.multiply(factor, table[i]);
+        i += 1;
+    }
+}
+
+// The residue that times 2^n is 1, under an odd modulus. That of 2 is m / 2 + 1.
+fn halved(n: u32, modulus: Modulus) -> u32
+    requires { ⌜ Valid modulus ⌝ }
+    requires { ⌜ modulus .value % 2 ≡ 1 ⌝ }
+    ensures { λ r. ⌜ Halves n (modulus .value) r ⌝ }
+{
+    let half = modulus.value() / 2 + 1;
+    let mut r: u32 = 1;
+    let mut i = 0;
+    while i < n {
+        r = modulus.multiply(r, half);
+        i += 1;
+    }
+    r
+}
+
+// A table transformed into another slice.
+fn load(transform: Transform, n: u32, modulus: Modulus, from: &[u32], to: &mut [u32])
+    requires { ⌜ Ready n modulus (now from) ⌝ }
+    requires { ⌜ length (now from) ≡ length (now to) ⌝ }
+    ensures { λ _. ⌜ Transformed (modulus .value) transform n (now (from .entry)) (now (to .exit)) ⌝ }
+{
+    copy(from, to);
+    transform.apply(n, modulus, to);
+}
+
+// Two tables transformed, multiplied entry by entry and transformed back. `other` is overwritten.
+fn convolve(
+    there: Transform,
+    back: Transform,
+    n: u32,
+    modulus: Modulus,
+    a: &[u32],
+    b: &[u32],
+    result: &mut [u32],
+    other: &mut [u32],
+)
+    requires { ⌜ Ready n modulus (now a) ⌝ }
+    requires { ⌜ Ready n modulus (now b) ⌝ }
+    requires { ⌜ length (now a) ≡ length (now result) ⌝ }
+    requires { ⌜ length (now b) ≡ length (now other) ⌝ }
+    ensures { λ _. ⌜ Transformed (modulus .value) back n (products n (modulus .value) there (now (a .entry)) (now (b .entry))) (now (result .exit)) ⌝ }
+{
+    load(there, n, modulus, a, result);
+    load(there, n, modulus, b, other);
+    multiply(n, modulus, other, result);
+    back.apply(n, modulus, result);
+}
+
+// The union product of accepted tables, and the clearing of the workspace (01: pad).
+fn union_tables(
+    n: u32,
+    modulus: Modulus,
+    a: &[u32],
+    b: &[u32],
+    result: &mut [u32],
+    workspace: &mut [u32],
+)
+    requires { ⌜ Inputs n modulus (now a) (now b) (length (now result)) (length (now workspace)) ⌝ }
+    ensures { λ _. ⌜ now (result .exit) ≡ unionTable n (modulus .value) (now (a .entry)) (now (b .entry)) ⌝ }
+    ensures { λ _. ⌜ now (workspace .exit) ≡ cleared (padLength n) (now (workspace .entry)) ⌝ }
+{
+    let long = checks::power(n);
+    convolve(
+        Transform::Zeta,
+        Transform::Moebius,
+        n,
+        modulus,
+        a,
+        b,
+        result,
+        &mut workspace[..long],
+    );
+    checks::clear(checks::pad_length(n), workspace);
+}
+
+// The xor product of accepted tables under an odd modulus, and the clearing of the workspace.
+fn xor_tables(
+    n: u32,
+    modulus: Modulus,
+    a: &[u32],
+    b: &[u32],
+    result: &mut [u32],
+    workspace: &mut [u32],
+)
+    requires { ⌜ Inputs n modulus (now a) (now b) (length (now result)) (length (now workspace)) ⌝ }
+    requires { ⌜ modulus .value % 2 ≡ 1 ⌝ }
+    ensures { λ _. ⌜ now (result .exit) ≡ xorTable n (modulus .value) (now (a .entry)) (now (b .entry)) ⌝ }
+    ensures { λ _. ⌜ now (workspace .exit) ≡ cleared (padLength n) (now (workspace .entry)) ⌝ }
+{
+    let long = checks::power(n);
+    convolve(
+        Transform::Walsh,
+        Transform::Walsh,
+        n,
+        modulus,
+        a,
+        b,
+        result,
+        &mut workspace[..long],
+    );
+    scale(n, modulus, halved(n, modulus), result);
+    checks::clear(checks::pad_length(n), workspace);
+}
+
+// 01's word for an even modulus.
+fn halving_word(m: u32) -> u32
+    ensures { λ r. ⌜ r ≡ halvingWord m ⌝ }
+{
+    if m % 2 == 0 { 7 } else { 0 }
+}
+
+// The xor product's tests, for a result and a workspace of these lengths.
+fn check_xor(n: u32, m: u32, a: &[u32], b: &[u32], result: usize, workspace: usize) -> Checked
+    ensures { λ r. ⌜ IsChecked m (xorNumber n m (now (a .entry)) (now (b .entry)) result workspace) r ⌝ }
+{
+    let checked = checks::check_product(n, m, a, b, result, workspace);
+    checked.also(halving_word(m))
+}
+
+// The union product: the sum over all pairs of sets with the given union.
+pub fn union_product(
+    n: u32,
+    m: u32,
+    a: &[u32],
+    b: &[u32],
+    result: &mut [u32],
+    pad: &mut [u32],
+) -> u32
+    ensures { λ r. ⌜ r ≡ productNumber n m (now (a .entry)) (now (b .entry)) (length (now (result .entry))) (length (now (pad .entry))) ⌝ }
+    ensures { λ r. ⌜ now (result .exit) ≡ after r (unionTable n m (now (a .entry)) (now (b .entry))) (now (result .entry)) ⌝ }
+    ensures { λ r. ⌜ now (pad .exit) ≡ padAfter r n (now (pad .entry)) ⌝ }
+{
+    match checks::check_product(n, m, a, b, result.len(), pad.len()) {
+        Checked::Accepted(modulus) => {
+            union_tables(n, modulus, a, b, result, pad);
+            0
+        }
+        Checked::Refused(word) => word,
+    }
+}
+
+// The xor product: the sum over all pairs of sets with the given symmetric difference, under an odd modulus.
+pub fn xor_product(n: u32, m: u32, a: &[u32], b: &[u32], result: &mut [u32], pad: &mut [u32]) -> u32
+    ensures { λ r. ⌜ r ≡ xorNumber n m (now (a .entry)) (now (b .entry)) (length (now (result .entry))) (length (now (pad .entry))) ⌝ }
+    ensures { λ r. ⌜ now (result .exit) ≡ after r (xorTable n m (now (a .entry)) (now (b .entry))) (now (result .entry)) ⌝ }
+    ensures { λ r. ⌜ now (pad .exit) ≡ padAfter r n (now (pad .entry)) ⌝ }
+{
+    match check_xor(n, m, a, b, result.len(), pad.len()) {
+        Checked::Accepted(modulus) => {
+            xor_tables(n, modulus, a, b, result, pad);
+            0
+        }
+        Checked::Refused(word) => word,
+    }
+}
