@@ -1,0 +1,8 @@
+pub mod Parts
+pub mod Upper
+pub mod Lower
+pub mod Copies
+pub mod Places
+pub mod Turns
+pub mod Levels
+pub mod RowSteps

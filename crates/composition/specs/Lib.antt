@@ -1,0 +1,3 @@
+pub mod Ready
+pub mod Slots
+pub mod InverseRows

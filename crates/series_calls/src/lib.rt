@@ -1,0 +1,9 @@
+// The public calls on set power series: exponential, composition with a row, inverse. Each makes 01's tests, works
+// in the part of the pad that it may use, and clears that part once, at the end.
+pub mod compositions;
+pub mod exponentials;
+pub mod inverses;
+
+pub use compositions::composition;
+pub use exponentials::exponential;
+pub use inverses::inverse;
