@@ -1,0 +1,2 @@
+pub mod GroupSteps
+pub mod GroupWrites

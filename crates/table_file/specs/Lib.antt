@@ -1,0 +1,4 @@
+pub mod HeaderAnswers
+pub mod Entries
+pub mod Words
+pub mod Reading

@@ -1,0 +1,10 @@
+// Table files: n, then m, then the 2^n entries of a table in rising code, then nothing. Header check, reader and writer.
+mod header;
+mod reader;
+
+pub use header::Header;
+pub use header::HeaderAnswer;
+pub use header::header_check;
+pub use header::header_check_number;
+pub use reader::read_table;
+pub use reader::read_table_number;

@@ -1,0 +1,2 @@
+pub mod WriterSteps
+pub mod TripSteps

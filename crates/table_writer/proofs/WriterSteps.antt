@@ -1,0 +1,179 @@
+-- The steps of writing a table file: its length, its entries, the whole.
+use mathlib.Core.Path.{_≡_, refl, sym, _∙_, ap, subst}
+use mathlib.Core.Bool.{true, false}
+use mathlib.Core.List.{List, [], _∷_, _++_, flatMap}
+use Prim.Native.Nat.{ℕ, zero, suc, _+_, _*_, _^_, _<_, _≤_}
+use native.Mathlib.Numerals.{add-one}
+use native.Mathlib.Omega.{arith}
+use lib.Dec.{ltb}
+use lib.ListN.{length, drop, getD, length-append, drop-of-length-le}
+use lib.Pow.{pow-mono}
+use lib.Seq.{sets, drop-cons, length-sets}
+use borrow.Author.Tests.{lt-ltb, le-ltb}
+use Rattle.definitions.specs.Groups.{groups}
+use Rattle.definitions.specs.Limits.{mostControls}
+use Rattle.definitions.specs.Files.{fileOf, writerNumber}
+use Rattle.definitions.specs.Refusals.{orElse, firstWord, panelWord, modulusWord}
+use Rattle.checks.specs.Words.{orElse-go, orElse-stop}
+use Rattle.checks.specs.Accepted.{tableWords, tableNumber, table-accepted}
+use Rattle.checks.specs.Answers.{IsChecked, accepted, refused, not-accepted, kept, no-value}
+use Rattle.checks.specs.declared.Checked.{Checked}
+use Rattle.checks.specs.declared.Checked.the-variants as checked
+use Rattle.number_groups.specs.Stores.{sets-append, sets-front}
+use Rattle.table_writer.specs.Writing.{shortWord, WrittenBy}
+use Rattle.table_writer.specs.declared.writer.Written.{Written}
+
+-- the entries from a place on
+abbrev pub entriesFrom : List ℕ → ℕ → List ℕ
+entriesFrom a i = flatMap groups (drop i a)
+
+module _ (a : List ℕ) (i : ℕ) where
+  one-entry : i < length a → entriesFrom a i ≡ groups (getD a i 0) ++ entriesFrom a (i + 1)
+  unfolding flatMap
+  one-entry h = rw (add-one i, drop-cons a i 0 h)
+
+  no-entry : length a ≤ i → entriesFrom a i ≡ []
+  unfolding flatMap
+  no-entry h = rw (drop-of-length-le a h)
+
+  entry-length : i < length a → length (entriesFrom a i) ≡ length (groups (getD a i 0)) + length (entriesFrom a (i + 1))
+  entry-length h = ap length (one-entry h) ∙ length-append (groups (getD a i 0)) (entriesFrom a (i + 1))
+
+-- ---- the length
+
+-- so many entries are counted
+pub record Counted (n m : ℕ) (a : List ℕ) (count i : ℕ) : Type 0 where
+  pub few : count ≤ 10 + 5 * i
+  pub inside : i ≤ length a
+  pub counts : count + length (entriesFrom a i) ≡ length (fileOf n m a)
+
+pub header-counted : (n m : ℕ) (a : List ℕ) {j k : ℕ} → (j ≡ length (groups n)) × (j ≤ 5) → (k ≡ length (groups m)) × (k ≤ 5) → Counted n m a (j + k) 0
+unfolding fileOf
+header-counted n m a p q = record {
+  few = omega (arith, p .1, q .1);
+  inside = omega arith;
+  counts = omega (arith, p .0, q .0, length-append (groups n) (groups m ++ flatMap groups a), length-append (groups m) (flatMap groups a));
+}
+
+module _ (n m : ℕ) (a : List ℕ) (count i : ℕ) (counted : Counted n m a count i) where
+  pub entry-counted : {k : ℕ} → i < length a → (k ≡ length (groups (getD a i 0))) × (k ≤ 5) → Counted n m a (count + k) (i + 1)
+  entry-counted h p = record {
+    few = omega (arith, p .1, counted .few);
+    inside = omega arith;
+    counts = omega (arith, p .0, counted .counts, entry-length a i h);
+  }
+
+  pub all-counted : length a ≤ i → count ≡ length (fileOf n m a)
+  all-counted h = omega (arith, counted .counts, ap length (no-entry a i h))
+
+-- ---- the entries
+
+-- so many entries are written, and with the others the buffer is as it is to be
+pub record EntriesLeft (a : List ℕ) (at : ℕ) (old buffer : List ℕ) (place i : ℕ) : Type 0 where
+  pub as-long : length buffer ≡ length old
+  pub ends : place + length (entriesFrom a i) ≡ at + length (flatMap groups a)
+  pub gives : sets buffer place (entriesFrom a i) ≡ sets old at (flatMap groups a)
+
+module _ (a : List ℕ) (at : ℕ) (old buffer : List ℕ) (place i : ℕ) (left : EntriesLeft a at old buffer place i) where
+  pub room : i < length a → at + length (flatMap groups a) ≤ length old → place + length (groups (getD a i 0)) ≤ length buffer
+  room h l = omega (arith, left .as-long, left .ends, entry-length a i h)
+
+  pub entry-written : {next : ℕ} {last : List ℕ} → i < length a → next ≡ place + length (groups (getD a i 0)) → last ≡ sets buffer place (groups (getD a i 0)) →
+      EntriesLeft a at old last next (i + 1)
+  entry-written {next} {last} h e f = record {
+    as-long = ap length f ∙ length-sets buffer place (groups (getD a i 0)) ∙ left .as-long;
+    ends = omega (arith, e, left .ends, entry-length a i h);
+    gives =
+        rw (e, f)
+        (sym (sets-append buffer place (groups (getD a i 0)) (entriesFrom a (i + 1)))
+        ∙ ap (λ (l : List ℕ). sets buffer place l) (sym (one-entry a i h)) ∙ left .gives);
+  }
+
+  pub entries-written : length a ≤ i → buffer ≡ sets old at (flatMap groups a)
+  entries-written h = ap (λ (l : List ℕ). sets buffer place l) (sym (no-entry a i h)) ∙ left .gives
+
+-- ---- the file
+
+module _ (n m : ℕ) (a old : List ℕ) where
+  file-length : length (fileOf n m a) ≡ length (groups n) + (length (groups m) + length (flatMap groups a))
+  unfolding fileOf
+  file-length = omega (arith, length-append (groups n) (groups m ++ flatMap groups a), length-append (groups m) (flatMap groups a))
+
+  module _ (fits : length (fileOf n m a) ≤ length old) where
+    pub first-fits : 0 + length (groups n) ≤ length old
+    first-fits = omega (arith, file-length)
+
+    module _ {second : ℕ} {one : List ℕ} (p : second ≡ 0 + length (groups n)) (f : one ≡ sets old 0 (groups n)) where
+      one-long : length one ≡ length old
+      one-long = ap length f ∙ length-sets old 0 (groups n)
+
+      pub second-fits : second + length (groups m) ≤ length one
+      second-fits = omega (arith, one-long, file-length)
+
+      module _ {third : ℕ} {two : List ℕ} (q : third ≡ second + length (groups m)) (g : two ≡ sets one second (groups m)) where
+        two-long : length two ≡ length one
+        two-long = ap length g ∙ length-sets one second (groups m)
+
+        pub entries-fit : third + length (flatMap groups a) ≤ length two
+        entries-fit = omega (arith, one-long, two-long, file-length)
+
+        pub file-written : {last : List ℕ} → last ≡ sets two third (flatMap groups a) → last ≡ sets old 0 (fileOf n m a)
+        unfolding fileOf
+        file-written e =
+            let behind : sets two third (flatMap groups a) ≡ sets one second (groups m ++ flatMap groups a) =
+            rw (q, g) (sym (sets-append one second (groups m) (flatMap groups a))) in
+            let all : sets one second (groups m ++ flatMap groups a) ≡ sets old 0 (groups n ++ (groups m ++ flatMap groups a)) =
+            rw (p, f) (sym (sets-append old 0 (groups n) (groups m ++ flatMap groups a))) in
+            e ∙ behind ∙ all
+
+  -- ---- the buffer
+
+  pub too-short : {count : ℕ} → count ≡ length (fileOf n m a) → length old < count →
+      WrittenBy n m a (shortWord n m a (length old)) old (record { number = 10; count = 0 }) old
+  too-short e h =
+      let t : ltb (length old) (length (fileOf n m a)) ≡ true = lt-ltb (length old) (length (fileOf n m a)) (omega arith) in
+      record { number-is = rw t; count-is = rw t; buffer-is = rw t }
+
+  pub long-enough : {count : ℕ} {last : List ℕ} → count ≡ length (fileOf n m a) → count ≤ length old → last ≡ sets old 0 (fileOf n m a) →
+      WrittenBy n m a (shortWord n m a (length old)) old (record { number = 0; count = count }) last
+  long-enough e h f =
+      let t : ltb (length old) (length (fileOf n m a)) ≡ false = le-ltb (length old) (length (fileOf n m a)) (omega arith) in
+      record { number-is = rw t; count-is = rw t e; buffer-is = rw t (f ∙ sets-front old (fileOf n m a) (omega arith)) }
+
+-- ---- the call
+
+last-word : (w : ℕ) → firstWord (w ∷ []) ≡ w
+last-word zero = refl
+last-word (suc w) = refl
+
+-- one more test behind some tests
+one-more : (ks : List ℕ) (w : ℕ) → firstWord (ks ++ (w ∷ [])) ≡ orElse (firstWord ks) w
+one-more [] w = last-word w
+one-more (zero ∷ ks) w = one-more ks w
+one-more (suc k ∷ ks) w = refl
+
+module _ (n m : ℕ) (a old : List ℕ) where
+  pub by-tests : writerNumber n m a (length old) ≡ orElse (tableNumber n m a) (shortWord n m a (length old))
+  unfolding writerNumber
+  by-tests = one-more (panelWord n ∷ modulusWord m ∷ tableWords n m a) (shortWord n m a (length old))
+
+  module _ {r : Checked} (tests : IsChecked m (tableNumber n m a) r) where
+    pub few-entries : {modulus : _} → r ≡ checked.Accepted modulus → length a ≤ 2 ^ mostControls
+    few-entries e =
+        let t = table-accepted n m a (accepted tests e) in
+        omega (arith, t .1 .size, pow-mono (t .0 .few))
+
+    pub as-written : {modulus : _} → r ≡ checked.Accepted modulus → {w : Written} {buffer : List ℕ} →
+        WrittenBy n m a (shortWord n m a (length old)) old w buffer → WrittenBy n m a (writerNumber n m a (length old)) old w buffer
+    as-written e {w} {buffer} h =
+        subst (λ (k : ℕ). WrittenBy n m a k old w buffer) (sym (by-tests ∙ orElse-go _ (shortWord n m a (length old)) (accepted tests e))) h
+
+    pub as-refused : {word : ℕ} → r ≡ checked.Refused word →
+        WrittenBy n m a (writerNumber n m a (length old)) old (record { number = word; count = 0 }) old
+    as-refused {word} e =
+        let same : writerNumber n m a (length old) ≡ tableNumber n m a = by-tests ∙ orElse-stop _ (shortWord n m a (length old)) (not-accepted tests e) in
+        rw same (record {
+          number-is = refused tests e;
+          count-is = no-value tests e (length (fileOf n m a));
+          buffer-is = kept tests e (fileOf n m a ++ drop (length (fileOf n m a)) old) old;
+        })

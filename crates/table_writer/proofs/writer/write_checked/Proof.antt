@@ -1,0 +1,28 @@
+use denote.Ref.{now}
+use Rattle.table_writer.proofs.WriterSteps.{too-short, long-enough}
+use borrow.Author.Needs.{needs}
+use Rattle.table_writer.proofs.writer.write_checked.Statement.{statement}
+use Rattle.table_writer.proofs.writer.write_checked.Tie as tie
+
+file-length-requires : tie.Need-file-length-requires
+file-length-requires c κs = search needs
+
+cast-if1 : tie.Need-cast-if1
+cast-if1 c = search needs
+
+returns : tie.Need-returns
+returns c = too-short (c .before .before .before .before .args .n) (c .before .before .before .before .args .m) (now (c .before .before .before .before .args .table)) (now (c .before .before .before .before .args .buffer)) (c .before .file-length .ensures) (c .if1 .taken)
+
+write-file-requires : tie.Need-write-file-requires
+write-file-requires c κs = search needs
+
+same-length : tie.Need-same-length
+same-length c = search needs
+
+returns-2 : tie.Need-returns-2
+returns-2 c = long-enough (c .before .before .before .before .before .before .before .before .args .n) (c .before .before .before .before .before .before .before .before .args .m) (now (c .before .before .before .before .before .before .before .before .args .table)) (now (c .before .before .before .before .before .before .before .before .args .buffer)) (c .before .before .before .before .before .file-length .ensures) (c .before .before .before .before .if1 .left) (c .before .before .write-file .ensures)
+
+pub write-checked-spec : {M : Type 1} → statement M
+write-checked-spec =
+    tie.close
+    (tie.spec file-length-requires cast-if1 returns write-file-requires same-length returns-2)

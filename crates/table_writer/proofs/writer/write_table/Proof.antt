@@ -1,0 +1,38 @@
+use denote.Ref.{now}
+use Rattle.table_writer.proofs.WriterSteps.{few-entries, as-written, as-refused}
+use borrow.Author.Needs.{needs}
+use Rattle.table_writer.proofs.writer.write_table.Statement.{statement}
+use Rattle.table_writer.proofs.writer.write_table.Tie as tie
+
+check-table-requires : tie.Need-check-table-requires
+check-table-requires c κs = search needs
+
+enum-told : tie.Need-enum-told
+enum-told c = search needs
+
+write-checked-requires : tie.Need-write-checked-requires
+write-checked-requires c κs = few-entries (c .before .before .before .before .before .before .args .n) (c .before .before .before .before .before .before .args .m) (now (c .before .before .before .before .before .before .args .table)) (now (c .before .before .before .before .before .before .args .buffer)) (c .before .before .before .check-table .ensures) (c .before .enum-told .given .1)
+
+enum-known-word : tie.Need-enum-known-word
+enum-known-word c = search needs
+
+same-length : tie.Need-same-length
+same-length c = search needs
+
+returns : tie.Need-returns
+returns c = let w = as-written (c .before .before .before .before .before .before .before .before .before .args .n) (c .before .before .before .before .before .before .before .before .before .args .m) (now (c .before .before .before .before .before .before .before .before .before .args .table)) (now (c .before .before .before .before .before .before .before .before .before .args .buffer)) (c .before .before .before .before .before .before .check-table .ensures) (c .before .before .before .before .enum-told .given .1) (c .before .before .write-checked .ensures) in (w .number-is, (w .count-is, w .buffer-is))
+
+returns-2 : tie.Need-returns-2
+returns-2 c = let w = as-refused (c .before .before .before .before .before .before .args .n) (c .before .before .before .before .before .before .args .m) (now (c .before .before .before .before .before .before .args .table)) (now (c .before .before .before .before .before .before .args .buffer)) (c .before .before .before .check-table .ensures) (c .before .word .given .1) in (w .number-is, (w .count-is, w .buffer-is))
+
+pub write-table-spec : {M : Type 1} → statement M
+write-table-spec =
+    tie.close
+    (tie.spec
+    check-table-requires
+    enum-told
+    write-checked-requires
+    enum-known-word
+    same-length
+    returns
+    returns-2)

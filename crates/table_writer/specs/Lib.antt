@@ -1,0 +1,3 @@
+pub mod Writing
+pub mod RoundTrip
+pub mod Trips
