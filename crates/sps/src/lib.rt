@@ -1,9 +1,12 @@
 // The calls as C functions, each with the contract of the call itself. A slice is a pointer and a length.
 ghost use mathlib.Core.Path.{_≡_};
 ghost use lib.ListN.{length};
-ghost use Rattle.definitions.specs.Products.{sumTable, differenceTable, subsetTable, degreeBound};
+ghost use Rattle.definitions.specs.Products.{sumTable, differenceTable, subsetTable, unionTable, xorTable, degreeBound};
 ghost use Rattle.definitions.specs.Rows.{binomialRow};
-ghost use Rattle.definitions.specs.Refusals.{sumNumber, binomialNumber, productNumber, after, valueAfter, padAfter};
+ghost use Rattle.definitions.specs.Partitions.{exponentialTable, compositionTable, IsInverse};
+ghost use Rattle.definitions.specs.Refusals.{sumNumber, binomialNumber, productNumber, xorNumber, exponentialNumber, compositionNumber, inverseNumber, after, valueAfter, padAfter};
+ghost use Rattle.definitions.specs.Files.{headerNumber, headerControls, headerModulus, packed, readerNumber, readerControls, readerModulus, tableRead, writerNumber, writtenCount, writtenBuffer};
+ghost use Rattle.series_calls.specs.InverseTables.{inverseTable};
 ghost use Rattle.sps.specs.Packing.{withNumber};
 
 #[no_mangle]
@@ -60,4 +63,100 @@ pub extern "C" fn sps_subset_product(
 {
     let product = subset_product::subset_product(n, m, a, b, result, pad);
     with_number(product.ceiling, product.number)
+}
+
+#[no_mangle]
+pub extern "C" fn sps_union_product(
+    n: u32,
+    m: u32,
+    a: &[u32],
+    b: &[u32],
+    result: &mut [u32],
+    pad: &mut [u32],
+) -> u32
+    ensures { λ r. ⌜ r ≡ productNumber n m (now (a .entry)) (now (b .entry)) (length (now (result .entry))) (length (now (pad .entry))) ⌝ }
+    ensures { λ r. ⌜ now (result .exit) ≡ after r (unionTable n m (now (a .entry)) (now (b .entry))) (now (result .entry)) ⌝ }
+    ensures { λ r. ⌜ now (pad .exit) ≡ padAfter r n (now (pad .entry)) ⌝ }
+{
+    transforms::union_product(n, m, a, b, result, pad)
+}
+
+#[no_mangle]
+pub extern "C" fn sps_xor_product(
+    n: u32,
+    m: u32,
+    a: &[u32],
+    b: &[u32],
+    result: &mut [u32],
+    pad: &mut [u32],
+) -> u32
+    ensures { λ r. ⌜ r ≡ xorNumber n m (now (a .entry)) (now (b .entry)) (length (now (result .entry))) (length (now (pad .entry))) ⌝ }
+    ensures { λ r. ⌜ now (result .exit) ≡ after r (xorTable n m (now (a .entry)) (now (b .entry))) (now (result .entry)) ⌝ }
+    ensures { λ r. ⌜ now (pad .exit) ≡ padAfter r n (now (pad .entry)) ⌝ }
+{
+    transforms::xor_product(n, m, a, b, result, pad)
+}
+
+#[no_mangle]
+pub extern "C" fn sps_exponential(
+    n: u32,
+    m: u32,
+    a: &[u32],
+    result: &mut [u32],
+    pad: &mut [u32],
+) -> u32
+    ensures { λ r. ⌜ r ≡ exponentialNumber n m (now (a .entry)) (length (now (result .entry))) (length (now (pad .entry))) ⌝ }
+    ensures { λ r. ⌜ now (result .exit) ≡ after r (exponentialTable n m (now (a .entry))) (now (result .entry)) ⌝ }
+    ensures { λ r. ⌜ now (pad .exit) ≡ padAfter r n (now (pad .entry)) ⌝ }
+{
+    series_calls::exponential(n, m, a, result, pad)
+}
+
+#[no_mangle]
+pub extern "C" fn sps_composition(
+    n: u32,
+    m: u32,
+    a: &[u32],
+    f: &[u32],
+    result: &mut [u32],
+    pad: &mut [u32],
+) -> u32
+    ensures { λ r. ⌜ r ≡ compositionNumber n m (now (a .entry)) (now (f .entry)) (length (now (result .entry))) (length (now (pad .entry))) ⌝ }
+    ensures { λ r. ⌜ now (result .exit) ≡ after r (compositionTable n m (now (f .entry)) (now (a .entry))) (now (result .entry)) ⌝ }
+    ensures { λ r. ⌜ now (pad .exit) ≡ padAfter r n (now (pad .entry)) ⌝ }
+{
+    series_calls::composition(n, m, a, f, result, pad)
+}
+
+#[no_mangle]
+pub extern "C" fn sps_inverse(n: u32, m: u32, a: &[u32], result: &mut [u32], pad: &mut [u32]) -> u32
+    ensures { λ r. ⌜ r ≡ inverseNumber n m (now (a .entry)) (length (now (result .entry))) (length (now (pad .entry))) ⌝ }
+    ensures { λ r. ⌜ now (result .exit) ≡ after r (inverseTable n m (now (a .entry))) (now (result .entry)) ⌝ }
+    ensures { λ r. ⌜ (r ≡ 0 → IsInverse n m (now (a .entry)) (now (result .exit))) ⌝ }
+    ensures { λ r. ⌜ now (pad .exit) ≡ padAfter r n (now (pad .entry)) ⌝ }
+{
+    series_calls::inverse(n, m, a, result, pad)
+}
+
+#[no_mangle]
+pub extern "C" fn sps_header_check(bytes: &[u8]) -> u64
+    ensures { λ r. ⌜ r ≡ packed (headerControls (now (bytes .entry))) (headerModulus (now (bytes .entry))) (headerNumber (now (bytes .entry))) ⌝ }
+{
+    table_file::header_check_number(bytes)
+}
+
+#[no_mangle]
+pub extern "C" fn sps_read_table(bytes: &[u8], table: &mut [u32]) -> u64
+    ensures { λ r. ⌜ r ≡ packed (readerControls (now (bytes .entry)) (length (now (table .entry)))) (readerModulus (now (bytes .entry)) (length (now (table .entry)))) (readerNumber (now (bytes .entry)) (length (now (table .entry)))) ⌝ }
+    ensures { λ _. ⌜ now (table .exit) ≡ tableRead (now (bytes .entry)) (now (table .entry)) ⌝ }
+{
+    table_file::read_table_number(bytes, table)
+}
+
+#[no_mangle]
+pub extern "C" fn sps_write_table(n: u32, m: u32, table: &[u32], buffer: &mut [u8]) -> u64
+    ensures { λ r. ⌜ r ≡ withNumber (writtenCount n m (now (table .entry)) (length (now (buffer .entry)))) (writerNumber n m (now (table .entry)) (length (now (buffer .entry)))) ⌝ }
+    ensures { λ _. ⌜ now (buffer .exit) ≡ writtenBuffer n m (now (table .entry)) (now (buffer .entry)) ⌝ }
+{
+    table_writer::write_table_number(n, m, table, buffer)
 }
