@@ -188,8 +188,10 @@ fn convolve(
     back.apply(n, modulus, result);
 }
 
-// The union product of accepted tables, and the clearing of the workspace (01: pad).
-fn union_tables(
+// The same with a workspace (01: pad), which is cleared.
+fn product_by(
+    there: Transform,
+    back: Transform,
     n: u32,
     modulus: Modulus,
     a: &[u32],
@@ -198,13 +200,13 @@ fn union_tables(
     workspace: &mut [u32],
 )
     requires { ⌜ Inputs n modulus (now a) (now b) (length (now result)) (length (now workspace)) ⌝ }
-    ensures { λ _. ⌜ now (result .exit) ≡ unionTable n (modulus .value) (now (a .entry)) (now (b .entry)) ⌝ }
+    ensures { λ _. ⌜ Transformed (modulus .value) back n (products n (modulus .value) there (now (a .entry)) (now (b .entry))) (now (result .exit)) ⌝ }
     ensures { λ _. ⌜ now (workspace .exit) ≡ cleared (padLength n) (now (workspace .entry)) ⌝ }
 {
     let long = checks::power(n);
     convolve(
-        Transform::Zeta,
-        Transform::Moebius,
+        there,
+        back,
         n,
         modulus,
         a,
@@ -215,7 +217,7 @@ fn union_tables(
     checks::clear(checks::pad_length(n), workspace);
 }
 
-// The xor product of accepted tables under an odd modulus, and the clearing of the workspace.
+// The xor product of accepted tables, under an odd modulus: what the transform made twice multiplied by is taken out again.
 fn xor_tables(
     n: u32,
     modulus: Modulus,
@@ -229,8 +231,7 @@ fn xor_tables(
     ensures { λ _. ⌜ now (result .exit) ≡ xorTable n (modulus .value) (now (a .entry)) (now (b .entry)) ⌝ }
     ensures { λ _. ⌜ now (workspace .exit) ≡ cleared (padLength n) (now (workspace .entry)) ⌝ }
 {
-    let long = checks::power(n);
-    convolve(
+    product_by(
         Transform::Walsh,
         Transform::Walsh,
         n,
@@ -238,10 +239,9 @@ fn xor_tables(
         a,
         b,
         result,
-        &mut workspace[..long],
+        workspace,
     );
     scale(n, modulus, halved(n, modulus), result);
-    checks::clear(checks::pad_length(n), workspace);
 }
 
 // 01's word for an even modulus.
@@ -274,7 +274,16 @@ pub fn union_product(
 {
     match checks::check_product(n, m, a, b, result.len(), pad.len()) {
         Checked::Accepted(modulus) => {
-            union_tables(n, modulus, a, b, result, pad);
+            product_by(
+                Transform::Zeta,
+                Transform::Moebius,
+                n,
+                modulus,
+                a,
+                b,
+                result,
+                pad,
+            );
             0
         }
         Checked::Refused(word) => word,

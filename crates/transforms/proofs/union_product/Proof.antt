@@ -6,7 +6,7 @@ use Rattle.definitions.specs.Products.{unionTable}
 use Rattle.definitions.specs.Refusals.{cleared}
 use Rattle.checks.specs.Accepted.{product-accepted}
 use Rattle.checks.specs.Answers.{accepted, refused, word-kept}
-use Rattle.transforms.proofs.Calls.{inputs}
+use Rattle.transforms.proofs.Calls.{inputs, union-made}
 use borrow.Author.Needs.{needs}
 use Rattle.transforms.proofs.union_product.Statement.{statement}
 use Rattle.transforms.proofs.union_product.Tie as tie
@@ -17,8 +17,8 @@ check-product-requires c κs = search needs
 enum-known-modulus : tie.Need-enum-known-modulus
 enum-known-modulus c = search needs
 
-union-tables-requires : tie.Need-union-tables-requires
-union-tables-requires c κs =
+product-by-requires : tie.Need-product-by-requires
+product-by-requires c κs =
     let e = c .before .before .before .modulus .given .1 in
     let h = c .before .before .before .before .before .check-product .ensures in
     let zero = accepted h e in
@@ -38,9 +38,15 @@ returns c =
     let args = c .before .before .before .before .before .before .before .before .before .before .before .before .before .before .before .args in
     let e = c .before .before .before .before .before .before .before .before .modulus .given .1 in
     let h = c .before .before .before .before .before .before .before .before .before .before .check-product .ensures in
-    let done = c .before .before .before .before .union-tables .ensures in (
-      sym (accepted h e),
-      (done .0 ∙ ap (λ (v : ℕ). unionTable (args .n) v (now (args .a)) (now (args .b))) (h .stands _ e .value-is), done .1),
+    let zero = accepted h e in
+    let stands = h .stands _ e in
+    let done = c .before .before .before .before .product-by .ensures in (
+      sym zero,
+      (
+        union-made (inputs stands (product-accepted _ _ _ _ _ _ zero)) (done .0)
+            ∙ ap (λ (v : ℕ). unionTable (args .n) v (now (args .a)) (now (args .b))) (stands .value-is),
+        done .1,
+      ),
     )
 
 returns-2 : tie.Need-returns-2
@@ -61,7 +67,7 @@ union-product-spec =
     (tie.spec
     check-product-requires
     enum-known-modulus
-    union-tables-requires
+    product-by-requires
     enum-known-word
     same-length
     same-length-2

@@ -1,11 +1,10 @@
 use mathlib.Core.Path.{sym, _∙_}
 use native.Mathlib.Omega.{arith}
 use denote.Ref.{now}
-use Rattle.theory.specs.Convolution.{union-by-zeta}
 use Rattle.transforms.proofs.Steps.{table-fits, front, cleared-front}
 use borrow.Author.Needs.{needs}
-use Rattle.transforms.proofs.union_tables.Statement.{statement}
-use Rattle.transforms.proofs.union_tables.Tie as tie
+use Rattle.transforms.proofs.product_by.Statement.{statement}
+use Rattle.transforms.proofs.product_by.Tie as tie
 
 power-requires : tie.Need-power-requires
 power-requires c κs = search needs
@@ -51,16 +50,14 @@ returns : tie.Need-returns
 returns c =
     let first = c .before .before .before .before .before .before .before .before .before .before .before .before .before .before .before .before .before in
     let args = first .args in
-    let a = first .pre .first .table .below in
-    let b = first .pre .second .table .below in
-    let m = args .modulus .value in (
-      c .before .before .before .before .before .before .before .before .before .convolve .ensures .is ∙ union-by-zeta m (omega (arith, a 0)) (args .n) (now (args .a)) (now (args .b)) (λ S h. a S) (λ S h. b S),
-      cleared-front (args .n) (now (args .workspace)) (c .before .before .before .before .before .before .before .before .before .before .before .before .power .ensures) (first .pre .room)
-          (c .before .before .before .before .before .before .before .before .before .convolve .last .1 .1 .1 .1 .1 .1 .1 .0) (c .before .before .before .before .before .before .workspace .given .0) (c .before .before .clear .ensures) (c .before .before .before .before .pad-length .ensures),
+    let worked = c .before .before .before .before .before .before .before .before .before .convolve in (
+      worked .ensures,
+      cleared-front (args .n) (now (args .workspace)) (c .before .before .before .before .before .before .before .before .before .before .before .before .power .ensures) (first .pre .room) (worked .last .1 .1 .1 .1 .1 .1 .1 .0)
+          (c .before .before .before .before .before .before .workspace .given .0) (c .before .before .clear .ensures) (c .before .before .before .before .pad-length .ensures),
     )
 
-pub union-tables-spec : {M : Type 1} → statement M
-union-tables-spec =
+pub product-by-spec : {M : Type 1} → statement M
+product-by-spec =
     tie.close
     (tie.spec
     power-requires
