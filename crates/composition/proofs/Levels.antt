@@ -6,14 +6,13 @@ use native.Mathlib.Nat.{mod-lt, mod-eq-of-lt, mul-le-mul-right, pow-suc, add-zer
 use native.Mathlib.Numerals.{add-one}
 use native.Mathlib.Omega.{arith}
 use lib.Arith.{lt-one}
-use lib.ListN.{length, drop, List·getD-append, length-drop}
-use lib.Pow.{pow-add, pow-mono, pow-pos}
+use lib.ListN.{length, drop, List·getD-append}
+use lib.Pow.{pow-add, pow-mono}
 use Rattle.definitions.specs.Sums.{tabulate, at}
-use Rattle.definitions.specs.Products.{residues}
 use Rattle.definitions.specs.Partitions.{compositionSum, compositionTable}
 use Rattle.theory.specs.Lists.{filled, length-tabulate, at-tabulate, residues-of}
 use Rattle.theory.specs.Composition.{composition-empty}
-use Rattle.composition.specs.Ready.{rowsLength, Ready, RowReady}
+use Rattle.composition.specs.Ready.{Ready, RowReady}
 use Rattle.composition.specs.Slots.{from, Slots, Turned, TurnReady, LevelReady, LevelRaised}
 use Rattle.composition.proofs.Lower.{rows-mono}
 use Rattle.composition.proofs.Turns.{turned-old, turned-new}

@@ -5,4 +5,3 @@ pub mod Copies
 pub mod Places
 pub mod Turns
 pub mod Levels
-pub mod RowSteps

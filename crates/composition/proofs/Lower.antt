@@ -1,7 +1,7 @@
 -- The exponential's step from the finished lower half of p controls to the whole of p + 1.
-use mathlib.Core.Path.{_≡_, refl, sym, ap, ap₂, _∙_}
+use mathlib.Core.Path.{_≡_, sym, ap, _∙_}
 use mathlib.Core.List.{List, _++_}
-use Prim.Native.Nat.{ℕ, suc, _+_, _-_, _*_, _%_, _^_, _<_, _≤_}
+use Prim.Native.Nat.{ℕ, suc, _+_, _-_, _%_, _^_, _<_, _≤_}
 use native.Mathlib.Nat.{mul-le-mul, mod-eq-of-lt, mod-lt}
 use native.Mathlib.Omega.{arith}
 use lib.Arith.{lt-one}
@@ -15,7 +15,7 @@ use Rattle.definitions.specs.Partitions.{exponentialTable, allOnes}
 use Rattle.theory.specs.Lists.{at-residues, residues-of}
 use Rattle.theory.specs.Composition.{composition-empty}
 use Rattle.theory.specs.Tables.{exponential-halves}
-use Rattle.ranked_theory.specs.Recursion.{width, Room, LaidLeft, FactorsReady, ProductOfLaid}
+use Rattle.ranked_theory.specs.Recursion.{Room, LaidLeft, FactorsReady, ProductOfLaid}
 use Rattle.composition.specs.Ready.{rowsLength, Ready, LowerDone, upperFilled}
 use Rattle.composition.proofs.Parts.{part-behind, put-behind}
 

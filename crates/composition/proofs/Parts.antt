@@ -1,12 +1,12 @@
 -- Parts of a list: what is lent of one, and the list with a part put back.
 --   part-behind, put-behind                 the part from mid to the end
 --   at-part, put-at, put-before, put-after  a part, and the list with another one in its place, entry by entry
-use mathlib.Core.Path.{_≡_, refl, sym, ap, ap₂, _∙_}
+use mathlib.Core.Path.{_≡_, sym, ap, _∙_}
 use mathlib.Core.List.{List, _++_, append-nil}
 use Prim.Native.Nat.{ℕ, _+_, _-_, _<_, _≤_}
 use native.Mathlib.Nat.{le-of-eq}
 use native.Mathlib.Omega.{arith}
-use lib.ListN.{length, getD, take, drop, length-drop, drop-of-length-le, List·getD-append}
+use lib.ListN.{length, take, drop, length-drop, drop-of-length-le, List·getD-append}
 use lib.Seq.{getD-take, getD-drop, take-all, getD-append-add, length-take-le}
 use borrow.Rule.Slice.PartMut.{putMid, midOf, postOf, take-put, drop-put}
 use Rattle.definitions.specs.Sums.{at}

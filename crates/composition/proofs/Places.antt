@@ -1,15 +1,15 @@
 -- A product of a table at one place of the result into another place.
-use mathlib.Core.Path.{_≡_, refl, sym, ap, _∙_}
+use mathlib.Core.Path.{_≡_, sym, ap, _∙_}
 use mathlib.Core.List.{List}
 use mathlib.Core.Logic.{_⊎_, inl, inr}
-use Prim.Native.Nat.{ℕ, zero, suc, _+_, _-_, _*_, _^_, _<_, _≤_}
+use Prim.Native.Nat.{ℕ, zero, suc, _+_, _-_, _*_, _^_, _≤_}
 use native.Mathlib.Omega.{arith}
 use lib.ListN.{length, take, drop}
 use borrow.Rule.Slice.PartMut.{putMid, mid-len}
 use Rattle.definitions.specs.Sums.{at}
 use Rattle.definitions.specs.Products.{subsetTable}
 use Rattle.theory.specs.Lists.{length-residues}
-use Rattle.ranked_theory.specs.Recursion.{Room, LaidLeft, FactorsReady, ProductOfLaid}
+use Rattle.ranked_theory.specs.Recursion.{LaidLeft, FactorsReady, ProductOfLaid}
 use Rattle.composition.specs.Slots.{tableAt, SlotReady, SlotMultiplied, CopyReady, Copied, TurnReady, Turned}
 use Rattle.composition.proofs.Parts.{at-part, put-at, put-before, put-after}
 

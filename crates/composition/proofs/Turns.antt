@@ -1,5 +1,5 @@
 -- One step of the composition: slots i and i + 1 of 2 ^ k numbers become slot i of 2 ^ (k + 1), which is slots 2i and 2i + 1.
-use mathlib.Core.Path.{_≡_, refl, sym, ap, ap₂, _∙_, fun-ext}
+use mathlib.Core.Path.{_≡_, sym, ap, _∙_, fun-ext}
 use mathlib.Core.List.{List}
 use mathlib.Core.Logic.{⊎-elim}
 use Prim.Native.Nat.{ℕ, zero, suc, _+_, _*_, _%_, _^_, _<_, _≤_}

@@ -1,3 +1,2 @@
 pub mod Ready
 pub mod Slots
-pub mod InverseRows

@@ -2,7 +2,7 @@
 -- (01: pad) with room for the rows of a product of one control less.
 use mathlib.Core.Path.{_≡_}
 use mathlib.Core.List.{List, _++_}
-use Prim.Native.Nat.{ℕ, suc, _+_, _*_, _^_, _<_, _≤_}
+use Prim.Native.Nat.{ℕ, suc, _*_, _^_, _<_, _≤_}
 use lib.ListN.{length, take, drop}
 use Rattle.definitions.specs.Limits.{mostControls}
 use Rattle.definitions.specs.Sums.{at}

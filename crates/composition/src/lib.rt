@@ -1,8 +1,7 @@
 // Exponential and composition of a table with a row, worked in the result and the workspace that they are lent.
 ghost use mathlib.Core.Path.{_≡_};
-ghost use mathlib.Core.List.{List};
-ghost use Prim.Native.Nat.{ℕ, suc, _+_, _*_, _^_, _≤_};
-ghost use lib.ListN.{length, take};
+ghost use Prim.Native.Nat.{_+_, _*_, _^_, _≤_};
+ghost use lib.ListN.{length};
 ghost use Rattle.definitions.specs.Limits.{mostControls};
 ghost use Rattle.definitions.specs.Sums.{at};
 ghost use Rattle.definitions.specs.Partitions.{exponentialTable, compositionTable};
@@ -10,9 +9,6 @@ ghost use Rattle.theory.specs.Lists.{filled};
 ghost use Rattle.residues.specs.Moduli.{Valid};
 ghost use Rattle.composition.specs.Ready.{Ready, RowReady, LowerDone, upperFilled};
 ghost use Rattle.composition.specs.Slots.{CopyReady, Copied, SlotReady, SlotMultiplied, TurnReady, Turned, LevelReady, LevelRaised};
-
-pub mod rows;
-
 use ranked::lay_out_left;
 use ranked::multiply_laid;
 use residues::Modulus;

@@ -1,12 +1,12 @@
 -- The row of inverses, entry after entry modulo m, and what the composition with it is.
-use mathlib.Core.Path.{_≡_, refl, sym, ap, subst, _∙_}
+use mathlib.Core.Path.{_≡_, refl, sym, ap, _∙_}
 use mathlib.Core.List.{List}
 use mathlib.Core.Logic.{⊎-elim}
-use Prim.Native.Nat.{ℕ, zero, suc, _+_, _-_, _*_, _%_, _^_, _<_, _≤_}
+use Prim.Native.Nat.{ℕ, zero, suc, _+_, _-_, _*_, _%_, _<_, _≤_}
 use native.Mathlib.Nat.{mod-mod, mod-eq-of-lt, mod-lt, zero-add, zero-mod}
 use native.Mathlib.Numerals.{add-one, one-add}
 use native.Mathlib.Omega.{arith}
-use lib.ListN.{length, set, replicate, length-set, length-replicate, getD-replicate}
+use lib.ListN.{set, replicate, length-set, length-replicate, getD-replicate}
 use lib.Seq.{getD-set-same, getD-set-other}
 use Rattle.definitions.specs.Sums.{at}
 use Rattle.definitions.specs.Partitions.{compositionTable}
@@ -15,12 +15,11 @@ use Rattle.theory.specs.Tests.{below-or}
 use Rattle.theory.specs.Lists.{residues-ext}
 use Rattle.theory.specs.Remainders.{mod-mul}
 use Rattle.theory.specs.Series.{composition-mod}
-use Rattle.theory.specs.Halves.{Row}
 use Rattle.theory.specs.Rows.{inverseRow, inverseRow-first, inverseRow-next, logarithmRow}
 use Rattle.theory.specs.Logarithm.{logarithmOf}
 use Rattle.theory.specs.Inverse.{inverseOf}
 use Rattle.composition.specs.Ready.{RowReady}
-use Rattle.composition.specs.InverseRows.{rowSpace, InverseRow}
+use Rattle.series_rows.specs.InverseRows.{rowSpace, InverseRow}
 
 -- ---- one entry
 

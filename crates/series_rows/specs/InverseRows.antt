@@ -1,7 +1,7 @@
 -- The row of inverses as a program makes it, modulo m.
 use mathlib.Core.Path.{_≡_}
 use mathlib.Core.List.{List}
-use Prim.Native.Nat.{ℕ, _+_, _*_, _%_, _<_, _≤_}
+use Prim.Native.Nat.{ℕ, _+_, _%_, _<_, _≤_}
 use lib.ListN.{length}
 use Rattle.definitions.specs.Limits.{mostControls}
 use Rattle.definitions.specs.Sums.{at}

@@ -1,11 +1,11 @@
 // Logarithm and inverse of a table: compositions with rows that are worked modulo m. No factorial is divided by.
 ghost use mathlib.Core.Path.{_≡_};
-ghost use Prim.Native.Nat.{_+_, _-_, _*_, _%_, _<_, _≤_};
+ghost use Prim.Native.Nat.{_+_, _-_, _*_, _<_, _≤_};
 ghost use Rattle.theory.specs.Logarithm.{logarithmOf};
 ghost use Rattle.theory.specs.Inverse.{inverseOf};
 ghost use Rattle.residues.specs.Moduli.{Valid, Residue};
 ghost use Rattle.composition.specs.Ready.{Ready};
-ghost use Rattle.composition.specs.InverseRows.{rowSpace, EntryReady, InverseRow};
+ghost use Rattle.series_rows.specs.InverseRows.{rowSpace, EntryReady, InverseRow};
 use residues::Modulus;
 
 // A row for the most controls that a panel has.
@@ -53,7 +53,7 @@ pub fn logarithm_table(
     ensures { λ _. ⌜ now (result .exit) ≡ logarithmOf n (modulus .value) (now (e .entry)) ⌝ }
 {
     let row = inverse_row(modulus, 1, 1);
-    crate::composition_table(n, modulus, e, &row, result, workspace);
+    composition::composition_table(n, modulus, e, &row, result, workspace);
 }
 
 // The inverse of a table whose first entry has the reciprocal u.
@@ -71,5 +71,5 @@ pub fn inverse_table(
     ensures { λ _. ⌜ now (result .exit) ≡ inverseOf n (modulus .value) u (now (a .entry)) ⌝ }
 {
     let row = inverse_row(modulus, u, 0);
-    crate::composition_table(n, modulus, a, &row, result, workspace);
+    composition::composition_table(n, modulus, a, &row, result, workspace);
 }

@@ -4,10 +4,10 @@ use native.Mathlib.Nat.{mod-lt}
 use native.Mathlib.Omega.{arith}
 use borrow.Author.Needs.{needs}
 use Rattle.theory.specs.Rows.{inverseRow}
-use Rattle.composition.specs.InverseRows.{rowSpace, InverseRow}
-use Rattle.composition.proofs.RowSteps.{first-entry, no-entries, one-more, next-entry}
-use Rattle.composition.proofs.rows.inverse_row.Statement.{statement}
-use Rattle.composition.proofs.rows.inverse_row.Tie as tie
+use Rattle.series_rows.specs.InverseRows.{rowSpace, InverseRow}
+use Rattle.series_rows.proofs.RowSteps.{first-entry, no-entries, one-more, next-entry}
+use Rattle.series_rows.proofs.inverse_row.Statement.{statement}
+use Rattle.series_rows.proofs.inverse_row.Tie as tie
 
 abbrev Inv-loop : tie.InvT-loop
 Inv-loop modulus u start row₀ entry₀ i₀ row entry i = (start ≤ i) × (i ≤ rowSpace) × (entry ≡ inverseRow (modulus .value) u (i - start) % modulus .value) × InverseRow (modulus .value) u start i row

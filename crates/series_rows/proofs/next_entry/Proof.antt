@@ -1,7 +1,7 @@
 use borrow.Author.Needs.{needs}
-use Rattle.composition.proofs.RowSteps.{three-products}
-use Rattle.composition.proofs.rows.next_entry.Statement.{statement}
-use Rattle.composition.proofs.rows.next_entry.Tie as tie
+use Rattle.series_rows.proofs.RowSteps.{three-products}
+use Rattle.series_rows.proofs.next_entry.Statement.{statement}
+use Rattle.series_rows.proofs.next_entry.Tie as tie
 
 add-reduce : tie.Need-add-reduce
 add-reduce c = search needs
