@@ -3,15 +3,15 @@
 --   used-in, used-long, ready                  what the core is lent
 --   clear-ready, pad-cleared  the pad at the end
 --   by-value                  what the core gives under the modulus' value
-use mathlib.Core.Path.{_≡_, refl, sym, ap, _∙_}
+use mathlib.Core.Path.{_≡_, sym, ap, _∙_}
 use mathlib.Core.List.{List, _++_}
-use Prim.Native.Nat.{ℕ, _+_, _*_, _^_, _<_, _≤_}
+use Prim.Native.Nat.{ℕ, _≤_}
 use native.Mathlib.Omega.{arith}
 use lib.ListN.{length, take, drop}
 use lib.Seq.{length-take-le, length-front, drop-at}
 use Rattle.definitions.specs.Limits.{padLength}
 use Rattle.definitions.specs.Sums.{tabulate, at}
-use Rattle.definitions.specs.Refusals.{orElse, startWord, cleared, singleNumber, compositionNumber}
+use Rattle.definitions.specs.Refusals.{startWord, cleared, singleNumber, compositionNumber}
 use Rattle.residues.specs.declared.Modulus.{Modulus}
 use Rattle.checks.specs.Words.{orElse-first, orElse-second}
 use Rattle.checks.specs.Accepted.{Single, Composition, single-accepted, composition-accepted, right-start, startNumber}

@@ -1,22 +1,21 @@
 -- The inverse call: its number, and what its result is.
-use mathlib.Core.Path.{_≡_, refl, sym, ap, subst, _∙_}
+use mathlib.Core.Path.{_≡_, sym, ap, subst, _∙_}
 use mathlib.Core.Bool.{Bool, true, false}
 use mathlib.Core.List.{List}
-use Prim.Native.Nat.{ℕ, _*_, _%_, _^_, _<_, _≤_}
+use Prim.Native.Nat.{ℕ, _<_, _≤_}
 use native.Mathlib.Nat.{mod-eq-of-lt}
 use native.Mathlib.Omega.{arith}
 use lib.ListN.{length}
 use lib.Pow.{pow-pos}
 use Rattle.definitions.specs.Sums.{at}
 use Rattle.definitions.specs.Partitions.{IsInverse, sharesDivisor}
-use Rattle.definitions.specs.Refusals.{orElse, wordIf, sharedStartWord, singleNumber, inverseNumber}
+use Rattle.definitions.specs.Refusals.{wordIf, sharedStartWord, singleNumber, inverseNumber}
 use Rattle.theory.specs.Inverse.{inverseOf, inverse-is}
-use Rattle.residues.specs.Moduli.{Valid}
 use Rattle.residues.specs.Reciprocals.{IsReciprocal, IsCommonDivisor, reciprocal-shares, common-shares}
 use Rattle.residues.specs.declared.Modulus.{Modulus}
 use Rattle.checks.specs.Words.{orElse-stop, orElse-go}
 use Rattle.checks.specs.Accepted.{Single, single-accepted}
-use Rattle.checks.specs.Answers.{Stands, IsChecked, accepted, refused, not-accepted}
+use Rattle.checks.specs.Answers.{IsChecked, accepted, refused, not-accepted}
 use Rattle.checks.specs.declared.Checked.{Checked}
 use Rattle.checks.specs.declared.Checked.the-variants.{Accepted, Refused}
 use Rattle.series_calls.specs.InverseTables.{inverseTable, reciprocal-is}

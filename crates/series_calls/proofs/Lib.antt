@@ -1,2 +1,3 @@
 pub mod Ends
 pub mod Inverting
+pub mod Logging

@@ -1,1 +1,2 @@
 pub mod InverseTables
+pub mod Hollow

@@ -3,9 +3,10 @@ ghost use mathlib.Core.Path.{_≡_};
 ghost use lib.ListN.{length};
 ghost use Rattle.definitions.specs.Products.{sumTable, differenceTable, subsetTable, unionTable, xorTable, degreeBound};
 ghost use Rattle.definitions.specs.Rows.{binomialRow};
-ghost use Rattle.definitions.specs.Partitions.{exponentialTable, compositionTable, IsInverse};
-ghost use Rattle.definitions.specs.Refusals.{sumNumber, binomialNumber, productNumber, xorNumber, exponentialNumber, compositionNumber, inverseNumber, after, valueAfter, padAfter};
+ghost use Rattle.definitions.specs.Partitions.{exponentialTable, compositionTable, IsLogarithm, IsInverse};
+ghost use Rattle.definitions.specs.Refusals.{sumNumber, binomialNumber, productNumber, xorNumber, exponentialNumber, logarithmNumber, compositionNumber, inverseNumber, after, valueAfter, padAfter};
 ghost use Rattle.definitions.specs.Files.{headerNumber, headerControls, headerModulus, packed, readerNumber, readerControls, readerModulus, tableRead, writerNumber, writtenCount, writtenBuffer};
+ghost use Rattle.theory.specs.Logarithm.{logarithmOf};
 ghost use Rattle.series_calls.specs.InverseTables.{inverseTable};
 ghost use Rattle.sps.specs.Packing.{withNumber};
 
@@ -110,6 +111,22 @@ pub extern "C" fn sps_exponential(
     ensures { λ r. ⌜ now (pad .exit) ≡ padAfter r n (now (pad .entry)) ⌝ }
 {
     series_calls::exponential(n, m, a, result, pad)
+}
+
+#[no_mangle]
+pub extern "C" fn sps_logarithm(
+    n: u32,
+    m: u32,
+    a: &[u32],
+    result: &mut [u32],
+    pad: &mut [u32],
+) -> u32
+    ensures { λ r. ⌜ r ≡ logarithmNumber n m (now (a .entry)) (length (now (result .entry))) (length (now (pad .entry))) ⌝ }
+    ensures { λ r. ⌜ now (result .exit) ≡ after r (logarithmOf n m (now (a .entry))) (now (result .entry)) ⌝ }
+    ensures { λ r. ⌜ (r ≡ 0 → IsLogarithm n m (now (a .entry)) (now (result .exit))) ⌝ }
+    ensures { λ r. ⌜ now (pad .exit) ≡ padAfter r n (now (pad .entry)) ⌝ }
+{
+    series_calls::logarithm(n, m, a, result, pad)
 }
 
 #[no_mangle]

@@ -1,0 +1,3 @@
+pub mod Demand
+pub mod Accepting
+pub mod Theorem
