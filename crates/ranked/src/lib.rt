@@ -6,6 +6,7 @@ ghost use lib.ListN.{length};
 ghost use Rattle.definitions.specs.Sets.{size};
 ghost use Rattle.definitions.specs.Products.{subsetTable};
 ghost use Rattle.residues.specs.Moduli.{Valid, Residue};
+ghost use Rattle.sets.specs.Sizes.{ByteSizes};
 ghost use Rattle.ranked_theory.specs.Rows.{plus, minus, stored, Run, RunReady, Added, Subtracted, RowStep, RowReady, RowsStep, RowsReady, coefficientCount, coefficient, RowOfResidues, Coefficients, Stored, Multiplied};
 ghost use Rattle.ranked_theory.specs.Recursion.{width, Ready, Worked, Laid, LaidLeft, Room, LaidOut, ReadOff, FactorsReady, ProductOfLaid, TablesReady};
 use residues::Accumulator;
@@ -33,6 +34,64 @@ fn row_width(n: usize) -> usize
     2 * n + 2
 }
 
+// rows[hi + i] += rows[lo + i] for i < 2, and for i < 4: all are read before one is stored, so that they are worked at once.
+fn add_two(modulus: Modulus, lo: usize, hi: usize, rows: &mut [u32])
+    requires { ⌜ Valid modulus ⌝ }
+    requires { ⌜ RunReady (modulus .value) lo hi 2 (now rows) ⌝ }
+    ensures { λ _. ⌜ Run (plus (modulus .value)) lo hi 2 (now (rows .entry)) (now (rows .exit)) ⌝ }
+{
+    let lo1 = lo + 1;
+    let hi1 = hi + 1;
+    let x0 = modulus.add(rows[hi], rows[lo]);
+    let x1 = modulus.add(rows[hi1], rows[lo1]);
+    rows[hi] = x0;
+    rows[hi1] = x1;
+}
+
+fn add_four(modulus: Modulus, lo: usize, hi: usize, rows: &mut [u32])
+    requires { ⌜ Valid modulus ⌝ }
+    requires { ⌜ RunReady (modulus .value) lo hi 4 (now rows) ⌝ }
+    ensures { λ _. ⌜ Run (plus (modulus .value)) lo hi 4 (now (rows .entry)) (now (rows .exit)) ⌝ }
+{
+    let lo1 = lo + 1;
+    let lo2 = lo + 2;
+    let lo3 = lo + 3;
+    let hi1 = hi + 1;
+    let hi2 = hi + 2;
+    let hi3 = hi + 3;
+    let x0 = modulus.add(rows[hi], rows[lo]);
+    let x1 = modulus.add(rows[hi1], rows[lo1]);
+    let x2 = modulus.add(rows[hi2], rows[lo2]);
+    let x3 = modulus.add(rows[hi3], rows[lo3]);
+    rows[hi] = x0;
+    rows[hi1] = x1;
+    rows[hi2] = x2;
+    rows[hi3] = x3;
+}
+
+// The rest of a run that is worked four at a time.
+fn add_rest(modulus: Modulus, lo: usize, hi: usize, count: usize, rows: &mut [u32])
+    requires { ⌜ Valid modulus ⌝ }
+    requires { ⌜ RunReady (modulus .value) lo hi count (now rows) ⌝ }
+    requires { ⌜ count < 4 ⌝ }
+    ensures { λ _. ⌜ Run (plus (modulus .value)) lo hi count (now (rows .entry)) (now (rows .exit)) ⌝ }
+{
+    if count == 0 {
+        return;
+    }
+    if count == 1 {
+        rows[hi] = modulus.add(rows[hi], rows[lo]);
+        return;
+    }
+    add_two(modulus, lo, hi, rows);
+    if count == 2 {
+        return;
+    }
+    let lo2 = lo + 2;
+    let hi2 = hi + 2;
+    rows[hi2] = modulus.add(rows[hi2], rows[lo2]);
+}
+
 // rows[hi + i] += rows[lo + i] for i < count.
 fn add_run(modulus: Modulus, lo: usize, hi: usize, count: usize, rows: &mut [u32])
     requires { ⌜ Valid modulus ⌝ }
@@ -40,12 +99,69 @@ fn add_run(modulus: Modulus, lo: usize, hi: usize, count: usize, rows: &mut [u32
     ensures { λ _. ⌜ Run (plus (modulus .value)) lo hi count (now (rows .entry)) (now (rows .exit)) ⌝ }
 {
     let mut i = 0;
-    while i < count {
-        let h = hi + i;
-        let l = lo + i;
-        rows[h] = modulus.add(rows[h], rows[l]);
-        i += 1;
+    while 4 <= count - i {
+        add_four(modulus, lo + i, hi + i, rows);
+        i += 4;
     }
+    add_rest(modulus, lo + i, hi + i, count - i, rows);
+}
+
+// rows[hi + i] -= rows[lo + i] for i < 2, and for i < 4: all are read before one is stored, so that they are worked at once.
+fn subtract_two(modulus: Modulus, lo: usize, hi: usize, rows: &mut [u32])
+    requires { ⌜ Valid modulus ⌝ }
+    requires { ⌜ RunReady (modulus .value) lo hi 2 (now rows) ⌝ }
+    ensures { λ _. ⌜ Run (minus (modulus .value)) lo hi 2 (now (rows .entry)) (now (rows .exit)) ⌝ }
+{
+    let lo1 = lo + 1;
+    let hi1 = hi + 1;
+    let x0 = modulus.subtract(rows[hi], rows[lo]);
+    let x1 = modulus.subtract(rows[hi1], rows[lo1]);
+    rows[hi] = x0;
+    rows[hi1] = x1;
+}
+
+fn subtract_four(modulus: Modulus, lo: usize, hi: usize, rows: &mut [u32])
+    requires { ⌜ Valid modulus ⌝ }
+    requires { ⌜ RunReady (modulus .value) lo hi 4 (now rows) ⌝ }
+    ensures { λ _. ⌜ Run (minus (modulus .value)) lo hi 4 (now (rows .entry)) (now (rows .exit)) ⌝ }
+{
+    let lo1 = lo + 1;
+    let lo2 = lo + 2;
+    let lo3 = lo + 3;
+    let hi1 = hi + 1;
+    let hi2 = hi + 2;
+    let hi3 = hi + 3;
+    let x0 = modulus.subtract(rows[hi], rows[lo]);
+    let x1 = modulus.subtract(rows[hi1], rows[lo1]);
+    let x2 = modulus.subtract(rows[hi2], rows[lo2]);
+    let x3 = modulus.subtract(rows[hi3], rows[lo3]);
+    rows[hi] = x0;
+    rows[hi1] = x1;
+    rows[hi2] = x2;
+    rows[hi3] = x3;
+}
+
+// The rest of a run that is worked four at a time.
+fn subtract_rest(modulus: Modulus, lo: usize, hi: usize, count: usize, rows: &mut [u32])
+    requires { ⌜ Valid modulus ⌝ }
+    requires { ⌜ RunReady (modulus .value) lo hi count (now rows) ⌝ }
+    requires { ⌜ count < 4 ⌝ }
+    ensures { λ _. ⌜ Run (minus (modulus .value)) lo hi count (now (rows .entry)) (now (rows .exit)) ⌝ }
+{
+    if count == 0 {
+        return;
+    }
+    if count == 1 {
+        rows[hi] = modulus.subtract(rows[hi], rows[lo]);
+        return;
+    }
+    subtract_two(modulus, lo, hi, rows);
+    if count == 2 {
+        return;
+    }
+    let lo2 = lo + 2;
+    let hi2 = hi + 2;
+    rows[hi2] = modulus.subtract(rows[hi2], rows[lo2]);
 }
 
 // rows[hi + i] -= rows[lo + i] for i < count.
@@ -55,12 +171,11 @@ fn subtract_run(modulus: Modulus, lo: usize, hi: usize, count: usize, rows: &mut
     ensures { λ _. ⌜ Run (minus (modulus .value)) lo hi count (now (rows .entry)) (now (rows .exit)) ⌝ }
 {
     let mut i = 0;
-    while i < count {
-        let h = hi + i;
-        let l = lo + i;
-        rows[h] = modulus.subtract(rows[h], rows[l]);
-        i += 1;
+    while 4 <= count - i {
+        subtract_four(modulus, lo + i, hi + i, rows);
+        i += 4;
     }
+    subtract_rest(modulus, lo + i, hi + i, count - i, rows);
 }
 
 // rows[hi] and the number after it become rows[lo] and the one after that.
@@ -78,12 +193,21 @@ fn store_pair(lo: usize, hi: usize, rows: &mut [u32])
 
 // Step 1 for one row u of the lower half, at its ranks |u| to |u| + d: 001's |h| - |h0| to |h|. The row above it has nothing at
 // rank |u| yet, so that rank is stored.
-fn add_row(modulus: Modulus, d: SetSize, w: usize, mid: usize, u: SetCode, rows: &mut [u32])
+fn add_row(
+    modulus: Modulus,
+    sizes: &[u8; 256],
+    d: SetSize,
+    w: usize,
+    mid: usize,
+    u: SetCode,
+    rows: &mut [u32],
+)
     requires { ⌜ Valid modulus ⌝ }
+    requires { ⌜ ByteSizes (now sizes) ⌝ }
     requires { ⌜ RowReady (modulus .value) (2 * size (u .0) + 2) (2 * d .0) w mid (u .0) (now rows) ⌝ }
     ensures { λ _. ⌜ RowStep (Added (modulus .value) (d .0) (size (u .0))) w mid (u .0) (now (rows .entry)) (now (rows .exit)) ⌝ }
 {
-    let rank = u.size();
+    let rank = u.size_by(sizes);
     let low = u.0 * w + 2 * rank.0;
     store_pair(low, mid + low, rows);
     let next = low + 2;
@@ -91,8 +215,9 @@ fn add_row(modulus: Modulus, d: SetSize, w: usize, mid: usize, u: SetCode, rows:
 }
 
 // Step 1: each row of the upper half takes the row of the lower half.
-fn add_lower(modulus: Modulus, p: usize, d: SetSize, w: usize, rows: &mut [u32])
+fn add_lower(modulus: Modulus, sizes: &[u8; 256], p: usize, d: SetSize, w: usize, rows: &mut [u32])
     requires { ⌜ Valid modulus ⌝ }
+    requires { ⌜ ByteSizes (now sizes) ⌝ }
     requires { ⌜ RowsReady (modulus .value) (λ u. 2 * size u + 2) (λ u. 2 * d .0) w p (now rows) ⌝ }
     ensures { λ _. ⌜ RowsStep (λ u. Added (modulus .value) (d .0) (size u)) w (2 ^ p * w) (2 ^ p) (now (rows .entry)) (now (rows .exit)) ⌝ }
 {
@@ -100,7 +225,7 @@ fn add_lower(modulus: Modulus, p: usize, d: SetSize, w: usize, rows: &mut [u32])
     let mid = half * w;
     let mut u = 0;
     while u < half {
-        add_row(modulus, d, w, mid, SetCode(u), rows);
+        add_row(modulus, sizes, d, w, mid, SetCode(u), rows);
         u += 1;
     }
 }
@@ -108,6 +233,7 @@ fn add_lower(modulus: Modulus, p: usize, d: SetSize, w: usize, rows: &mut [u32])
 // Step 2 for one row u of the lower half: from its size |h| = |u| + d to |h| + e, and none past 2 |h|.
 fn subtract_row(
     modulus: Modulus,
+    sizes: &[u8; 256],
     d: SetSize,
     e: SetSize,
     w: usize,
@@ -116,10 +242,11 @@ fn subtract_row(
     rows: &mut [u32],
 )
     requires { ⌜ Valid modulus ⌝ }
+    requires { ⌜ ByteSizes (now sizes) ⌝ }
     requires { ⌜ RowReady (modulus .value) (size (u .0) + d .0) (min (e .0) (size (u .0) + d .0) + 1) w mid (u .0) (now rows) ⌝ }
     ensures { λ _. ⌜ RowStep (Subtracted (modulus .value) (e .0) (size (u .0) + d .0)) w mid (u .0) (now (rows .entry)) (now (rows .exit)) ⌝ }
 {
-    let low = u.size();
+    let low = u.size_by(sizes);
     let whole = SetSize(low.0 + d.0);
     let first = u.0 * w + whole.0;
     let more = lesser(e, whole);
@@ -127,8 +254,17 @@ fn subtract_row(
 }
 
 // Step 2: each row of the upper half loses the row of the lower half.
-fn subtract_lower(modulus: Modulus, p: usize, d: SetSize, e: SetSize, w: usize, rows: &mut [u32])
+fn subtract_lower(
+    modulus: Modulus,
+    sizes: &[u8; 256],
+    p: usize,
+    d: SetSize,
+    e: SetSize,
+    w: usize,
+    rows: &mut [u32],
+)
     requires { ⌜ Valid modulus ⌝ }
+    requires { ⌜ ByteSizes (now sizes) ⌝ }
     requires { ⌜ RowsReady (modulus .value) (λ u. size u + d .0) (λ u. min (e .0) (size u + d .0) + 1) w p (now rows) ⌝ }
     ensures { λ _. ⌜ RowsStep (λ u. Subtracted (modulus .value) (e .0) (size u + d .0)) w (2 ^ p * w) (2 ^ p) (now (rows .entry)) (now (rows .exit)) ⌝ }
 {
@@ -136,7 +272,7 @@ fn subtract_lower(modulus: Modulus, p: usize, d: SetSize, e: SetSize, w: usize, 
     let mid = half * w;
     let mut u = 0;
     while u < half {
-        subtract_row(modulus, d, e, w, mid, SetCode(u), rows);
+        subtract_row(modulus, sizes, d, e, w, mid, SetCode(u), rows);
         u += 1;
     }
 }
@@ -161,31 +297,29 @@ fn product_rank(modulus: Modulus, d: SetSize, e: SetSize, row: &[u32]) -> u32
 }
 
 // Ranks d, d + 1, .. of the product of a row's factors, count of them.
-fn product_ranks(modulus: Modulus, d: SetSize, count: usize, row: &[u32]) -> [u32; 17]
+fn product_ranks(modulus: Modulus, d: SetSize, count: usize, row: &[u32], ranks: &mut [u32; 17])
     requires { ⌜ Valid modulus ⌝ }
     requires { ⌜ RowOfResidues (modulus .value) (d .0) (d .0) (now row) ⌝ }
-    requires { ⌜ count ≤ d .0 + 1 ⌝ }
-    ensures { λ r. ⌜ Coefficients (modulus .value) (d .0) count (now (row .entry)) r ⌝ }
+    requires { ⌜ (count ≤ d .0 + 1) × (length (now ranks) ≡ 17) ⌝ }
+    ensures { λ _. ⌜ Coefficients (modulus .value) (d .0) count (now (row .entry)) (now (ranks .exit)) ⌝ }
 {
-    let mut ranks = [0u32; 17];
     let mut e = 0;
     while e < count {
         ranks[e] = product_rank(modulus, d, SetSize(e), row);
         e += 1;
     }
-    ranks
 }
 
 // The first count of the ranks, from rank d on.
-fn store_ranks(d: SetSize, count: usize, ranks: [u32; 17], row: &mut [u32])
+fn store_ranks(d: SetSize, count: usize, ranks: &[u32; 17], row: &mut [u32])
     requires { ⌜ (count ≤ 17) × (d .0 + count ≤ length (now row)) ⌝ }
-    ensures { λ _. ⌜ Stored (d .0) count ranks (now (row .entry)) (now (row .exit)) ⌝ }
+    ensures { λ _. ⌜ Stored (d .0) count (now (ranks .entry)) (now (row .entry)) (now (row .exit)) ⌝ }
 {
-    let mut e = 0;
-    while e < count {
-        let k = d.0 + e;
-        row[k] = ranks[e];
-        e += 1;
+    let mut i = 0;
+    while i < count {
+        let k = d.0 + i;
+        row[k] = ranks[i];
+        i += 1;
     }
 }
 
@@ -197,13 +331,22 @@ fn multiply_row(n: usize, modulus: Modulus, d: SetSize, row: &mut [u32])
 {
     let more = lesser(SetSize(n - d.0), d);
     let count = more.0 + 1;
-    let ranks = product_ranks(modulus, d, count, row);
-    store_ranks(d, count, ranks, row);
+    let mut ranks = [0u32; 17];
+    product_ranks(modulus, d, count, row, &mut ranks);
+    store_ranks(d, count, &ranks, row);
 }
 
 // The recursion on 2^q rows whose codes share d = |h0| controls above the low q.
-pub fn ranked_product(n: usize, modulus: Modulus, q: usize, d: SetSize, rows: &mut [u32])
+fn ranked_product(
+    n: usize,
+    modulus: Modulus,
+    sizes: &[u8; 256],
+    q: usize,
+    d: SetSize,
+    rows: &mut [u32],
+)
     requires { ⌜ Valid modulus ⌝ }
+    requires { ⌜ ByteSizes (now sizes) ⌝ }
     requires { ⌜ Ready (modulus .value) n q (d .0) (now rows) ⌝ }
     ensures { λ _. ⌜ Worked (modulus .value) n q (d .0) (now (rows .entry)) (now (rows .exit)) ⌝ }
 {
@@ -213,15 +356,16 @@ pub fn ranked_product(n: usize, modulus: Modulus, q: usize, d: SetSize, rows: &m
         let p = q - 1;
         let w = row_width(n);
         let mid = power_of_two(p) * w;
-        add_lower(modulus, p, d, w, rows);
-        ranked_product(n, modulus, p, d, &mut rows[..mid]);
-        ranked_product(n, modulus, p, SetSize(d.0 + 1), &mut rows[mid..]);
-        subtract_lower(modulus, p, d, SetSize(n - p - d.0), w, rows);
+        add_lower(modulus, sizes, p, d, w, rows);
+        ranked_product(n, modulus, sizes, p, d, &mut rows[..mid]);
+        ranked_product(n, modulus, sizes, p, SetSize(d.0 + 1), &mut rows[mid..]);
+        subtract_lower(modulus, sizes, p, d, SetSize(n - p - d.0), w, rows);
     }
 }
 
 // a[h] becomes rank |h| of row h in the factor at that side, 0 the left one and 1 the right one.
-fn lay_out(n: usize, side: usize, a: &[u32], rows: &mut [u32])
+fn lay_out(n: usize, sizes: &[u8; 256], side: usize, a: &[u32], rows: &mut [u32])
+    requires { ⌜ ByteSizes (now sizes) ⌝ }
     requires { ⌜ Room n (now a) (now rows) ⌝ }
     requires { ⌜ side ≤ 1 ⌝ }
     ensures { λ _. ⌜ LaidOut n side (now (a .entry)) (now (rows .entry)) (now (rows .exit)) ⌝ }
@@ -230,7 +374,7 @@ fn lay_out(n: usize, side: usize, a: &[u32], rows: &mut [u32])
     let mut h = 0;
     while h < a.len() {
         let code = SetCode(h);
-        let rank = code.size();
+        let rank = code.size_by(sizes);
         let place = h * w + (2 * rank.0 + side);
         rows[place] = a[h];
         h += 1;
@@ -242,11 +386,13 @@ pub fn lay_out_left(n: usize, a: &[u32], rows: &mut [u32])
     requires { ⌜ Room n (now a) (now rows) ⌝ }
     ensures { λ _. ⌜ LaidLeft n (now (a .entry)) (now (rows .exit)) ⌝ }
 {
-    lay_out(n, 0, a, rows);
+    let sizes = sets::byte_sizes();
+    lay_out(n, &sizes, 0, a, rows);
 }
 
 // The result: result[h] is rank |h| of row h.
-fn read_off(n: usize, rows: &[u32], result: &mut [u32])
+fn read_off(n: usize, sizes: &[u8; 256], rows: &[u32], result: &mut [u32])
+    requires { ⌜ ByteSizes (now sizes) ⌝ }
     requires { ⌜ Room n (now result) (now rows) ⌝ }
     ensures { λ _. ⌜ ReadOff n (now (rows .entry)) (now (result .exit)) ⌝ }
 {
@@ -254,7 +400,7 @@ fn read_off(n: usize, rows: &[u32], result: &mut [u32])
     let mut h = 0;
     while h < result.len() {
         let code = SetCode(h);
-        let rank = code.size();
+        let rank = code.size_by(sizes);
         let place = h * w + rank.0;
         result[h] = rows[place];
         h += 1;
@@ -267,10 +413,11 @@ pub fn multiply_laid(n: usize, modulus: Modulus, b: &[u32], result: &mut [u32], 
     requires { ⌜ FactorsReady (modulus .value) n (now b) (now result) (now rows) ⌝ }
     ensures { λ _. ⌜ ProductOfLaid (modulus .value) n (now (b .entry)) (now (rows .entry)) (now (result .exit)) ⌝ }
 {
-    lay_out(n, 1, b, rows);
+    let sizes = sets::byte_sizes();
+    lay_out(n, &sizes, 1, b, rows);
     let used = power_of_two(n) * row_width(n);
-    ranked_product(n, modulus, n, SetSize(0), &mut rows[..used]);
-    read_off(n, rows, result);
+    ranked_product(n, modulus, &sizes, n, SetSize(0), &mut rows[..used]);
+    read_off(n, &sizes, rows, result);
 }
 
 // The subset product of a and b.

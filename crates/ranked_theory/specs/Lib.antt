@@ -4,6 +4,7 @@ pub mod Lowest
 pub mod Rows
 pub mod Recursion
 pub mod Places
+pub mod Runs
 pub mod RowSteps
 pub mod Levels
 pub mod Halves

@@ -1,11 +1,11 @@
 -- Lists that a loop changes place by place, one value a turn.
 --   Placed      placed-none, placed-more: one place more
 --   Filling     the invariant of a loop that places values; filling-none, filling-more
-use mathlib.Core.Path.{_≡_, refl, sym, ap, ap₂, subst, subst₂, _∙_}
+use mathlib.Core.Path.{_≡_, refl, sym, ap, ap₂, subst, _∙_}
 use mathlib.Core.List.{List}
 use mathlib.Core.Logic.{_⊎_, inl, inr, ⊎-elim}
 use Prim.Native.Nat.{ℕ, zero, suc, _+_, _*_, _^_, _≤_, _<_}
-use native.Mathlib.Nat.{suc-mul, mul-le-mul-right, le-antisymm, add-zero}
+use native.Mathlib.Nat.{suc-mul, mul-le-mul-right, le-antisymm}
 use native.Mathlib.Numerals.{add-one}
 use native.Mathlib.Omega.{arith}
 use lib.ListN.{length, set, length-set}
@@ -40,14 +40,6 @@ placed-more {v} {base} {i} {xs} {ys} h x l e =
           ∙ h .outside j (⊎-elim (λ a. inl a) (λ a. inr (omega arith)) o);
     }
 
--- two places
-pub placed-pair : (lo hi : ℕ) (xs : List ℕ) → hi + 2 ≤ length xs
-    → Placed (λ i. at xs (lo + i)) hi 2 xs (set (set xs hi (at xs lo)) (hi + 1) (at xs (lo + 1)))
-placed-pair lo hi xs l =
-    subst₂ (λ (k h : ℕ). Placed (λ i. at xs (lo + i)) hi 2 xs (set (set xs h (at xs k)) (hi + 1) (at xs (lo + 1)))) (add-zero lo) (add-zero hi)
-    (placed-more (placed-more (placed-none (λ i. at xs (lo + i)) hi xs) (at xs (lo + 0)) (omega arith) refl) (at xs (lo + 1))
-    (omega (arith, length-set xs (hi + 0) (at xs (lo + 0)))) refl)
-
 -- the invariant of a loop that places v base, .., one value a turn
 pub record Filling (v : ℕ → ℕ) (base count : ℕ) (xs ys : List ℕ) (i : ℕ) : Type 0 where
   pub turn : i ≤ count
@@ -65,13 +57,6 @@ filling-more {base = base} {i = i} {ys = ys} h l room x e =
       long = length-set ys (base + i) x ∙ h .long;
       done = placed-more (h .done) x (omega (arith, h .long)) e;
     }
-
--- what it has not come to yet
-pub filling-next : {v : ℕ → ℕ} {base count i : ℕ} {xs ys : List ℕ} → Filling v base count xs ys i → at ys (base + i) ≡ at xs (base + i)
-filling-next {base = base} {i = i} h = h .done .outside (base + i) (inr (omega arith))
-
-pub filling-under : {v : ℕ → ℕ} {base count i : ℕ} {xs ys : List ℕ} → Filling v base count xs ys i → (j : ℕ) → j < base → at ys j ≡ at xs j
-filling-under h j l = h .done .outside j (inl l)
 
 pub filling-all : {v : ℕ → ℕ} {base count i : ℕ} {xs ys : List ℕ} → Filling v base count xs ys i → count ≤ i → Placed v base count xs ys
 filling-all {v} {base} {count} {i} {xs} {ys} h l = subst (λ (c : ℕ). Placed v base c xs ys) (le-antisymm (h .turn) l) (h .done)

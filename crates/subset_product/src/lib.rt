@@ -8,7 +8,7 @@ ghost use Rattle.definitions.specs.Limits.{mostControls};
 ghost use Rattle.definitions.specs.Sets.{size};
 ghost use Rattle.definitions.specs.Products.{subsetTable, degree, degreeBound};
 ghost use Rattle.definitions.specs.Refusals.{productNumber, after, valueAfter, padAfter};
-ghost use Rattle.sets.specs.Sizes.{codeLimit};
+ghost use Rattle.sets.specs.Sizes.{codeLimit, ByteSizes};
 use checks::Checked;
 use sets::SetCode;
 use sets::SetSize;
@@ -20,11 +20,16 @@ pub struct Product {
 }
 
 // The size of the set if its entry is not 0.
-fn counted_size(entry: u32, set: SetCode) -> SetSize
+fn counted_size(sizes: &[u8; 256], entry: u32, set: SetCode) -> SetSize
+    requires { ⌜ ByteSizes (now sizes) ⌝ }
     requires { ⌜ set .0 < codeLimit ⌝ }
     ensures { λ r. ⌜ r .0 ≡ cond (eqb entry 0) 0 (size (set .0)) ⌝ }
 {
-    if entry == 0 { SetSize(0) } else { set.size() }
+    if entry == 0 {
+        SetSize(0)
+    } else {
+        set.size_by(sizes)
+    }
 }
 
 fn larger(a: SetSize, b: SetSize) -> SetSize
@@ -38,10 +43,11 @@ fn degree(n: u32, a: &[u32]) -> SetSize
     requires { ⌜ (n ≤ mostControls) × (length (now a) ≡ 2 ^ n) ⌝ }
     ensures { λ r. ⌜ r .0 ≡ degree n (now (a .entry)) ⌝ }
 {
+    let sizes = sets::byte_sizes();
     let mut largest = SetSize(0);
     let mut h = 0;
     while h < a.len() {
-        largest = larger(largest, counted_size(a[h], SetCode(h)));
+        largest = larger(largest, counted_size(&sizes, a[h], SetCode(h)));
         h += 1;
     }
     largest

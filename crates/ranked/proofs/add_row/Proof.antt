@@ -1,11 +1,12 @@
+use native.Mathlib.Omega.{arith}
 use mathlib.Core.Path.{refl}
 use Rattle.ranked_theory.specs.RowSteps as rows
 use borrow.Author.Needs.{needs}
 use Rattle.ranked.proofs.add_row.Statement.{statement}
 use Rattle.ranked.proofs.add_row.Tie as tie
 
-size-requires : tie.Need-size-requires
-size-requires c κs = search needs
+size-by-requires : tie.Need-size-by-requires
+size-by-requires c κs = (omega (arith, c .before .pre .1 .1 .code), c .before .pre .1 .0)
 
 mul-low : tie.Need-mul-low
 mul-low c = search needs
@@ -34,7 +35,7 @@ mul-add-run c = search needs
 add-run-requires : tie.Need-add-run-requires
 add-run-requires c κs =
     let s = c .before .before .before .before .before .before .before .before .before .before in
-    (s .pre .0, rows.pair-ready _ _ _ _ _ _ _ _ _ (s .pre .1) (c .before .before .before .before .before .before .before .before .size .ensures) refl (c .before .before .before .before .store-pair .ensures) (c .before .before .before .before .store-pair .kept .1 .1 .0))
+    (s .pre .0, rows.pair-ready _ _ _ _ _ _ _ _ _ (s .pre .1 .1) (c .before .before .before .before .before .before .before .before .size-by .ensures) refl (c .before .before .before .before .store-pair .ensures) (c .before .before .before .before .store-pair .kept .1 .1 .0))
 
 same-length : tie.Need-same-length
 same-length c = search needs
@@ -42,13 +43,13 @@ same-length c = search needs
 returns : tie.Need-returns
 returns c =
     let s = c .before .before .before .before .before .before .before .before .before .before .before .before .before in
-    rows.add-row _ _ _ _ _ _ _ _ _ (s .pre .1) (c .before .before .before .before .before .before .before .before .before .before .before .size .ensures) refl (c .before .before .before .before .before .before .before .store-pair .ensures) (c .before .before .before .before .before .before .before .store-pair .kept .1 .1 .0) _ (c .before .before .add-run .ensures)
+    rows.add-row _ _ _ _ _ _ _ _ _ (s .pre .1 .1) (c .before .before .before .before .before .before .before .before .before .before .before .size-by .ensures) refl (c .before .before .before .before .before .before .before .store-pair .ensures) (c .before .before .before .before .before .before .before .store-pair .kept .1 .1 .0) _ (c .before .before .add-run .ensures)
 
 pub add-row-spec : {M : Type 1} → statement M
 add-row-spec =
     tie.close
     (tie.spec
-    size-requires
+    size-by-requires
     mul-low
     mul-low-2
     add-low

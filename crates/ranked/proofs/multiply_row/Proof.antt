@@ -1,4 +1,4 @@
-use mathlib.Core.Path.{_≡_, ap}
+use mathlib.Core.Path.{_≡_, refl, ap}
 use Prim.Native.Nat.{ℕ, _+_, _-_, min}
 use native.Mathlib.Omega.{arith}
 use Rattle.ranked_theory.specs.Places.{placed-as}
@@ -17,9 +17,9 @@ add-count c = search needs
 
 product-ranks-requires : tie.Need-product-ranks-requires
 product-ranks-requires c κs =
-    let s = c .before .before .before .before .before in
+    let s = c .before .before .before .before .before .before in
     let r = s .pre .1 in
-    (s .pre .0, (record { few = omega (arith, r .few, r .deep); deep = omega arith; long = omega (arith, r .long, r .deep); below = r .below }, omega (arith, c .before .before .lesser .ensures)))
+    (s .pre .0, (record { few = omega (arith, r .few, r .deep); deep = omega arith; long = omega (arith, r .long, r .deep); below = r .below }, (omega (arith, c .before .before .before .lesser .ensures), refl)))
 
 store-ranks-requires : tie.Need-store-ranks-requires
 store-ranks-requires c κs = search needs
@@ -28,7 +28,7 @@ same-length : tie.Need-same-length
 same-length c = search needs
 
 returns : tie.Need-returns
-returns c = placed-as (c .before .before .store-ranks .ensures) (ap (λ (k : ℕ). k + 1) (c .before .before .before .before .before .before .before .lesser .ensures)) (λ e l. c .before .before .before .before .product-ranks .ensures e l)
+returns c = placed-as (c .before .before .store-ranks .ensures) (ap (λ (k : ℕ). k + 1) (c .before .before .before .before .before .before .before .before .before .lesser .ensures)) (λ e l. c .before .before .before .before .before .product-ranks .ensures e l)
 
 pub multiply-row-spec : {M : Type 1} → statement M
 multiply-row-spec =

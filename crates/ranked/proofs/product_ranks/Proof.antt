@@ -16,7 +16,7 @@ abbrev μ-loop : tie.MeasureT-loop
 μ-loop modulus d count row ranks₀ e₀ ranks e = count - e
 
 loop-holds : tie.Need-loop-holds Inv-loop μ-loop
-loop-holds c = (omega arith, refl, λ i l. absurd (not-suc-le-zero l))
+loop-holds c = (omega arith, c .before .pre .1 .1 .1, λ i l. absurd (not-suc-le-zero l))
 
 product-rank-requires : tie.Need-product-rank-requires Inv-loop μ-loop
 product-rank-requires c κs = (c .before .before .before .pre .0, (c .before .before .before .pre .1 .0, omega arith))
@@ -24,8 +24,8 @@ product-rank-requires c κs = (c .before .before .before .pre .0, (c .before .be
 mul-ranks : tie.Need-mul-ranks Inv-loop μ-loop
 mul-ranks c = search needs
 
-array-write-ranks : tie.Need-array-write-ranks Inv-loop μ-loop
-array-write-ranks c = search needs
+element-write-ranks : tie.Need-element-write-ranks Inv-loop μ-loop
+element-write-ranks c = search needs
 
 add-e : tie.Need-add-e Inv-loop μ-loop
 add-e c = search needs
@@ -54,7 +54,7 @@ product-ranks-spec =
     loop-holds
     product-rank-requires
     mul-ranks
-    array-write-ranks
+    element-write-ranks
     add-e
     loop-less
     loop-again

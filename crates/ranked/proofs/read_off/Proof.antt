@@ -9,14 +9,14 @@ use Rattle.ranked.proofs.read_off.Statement.{statement}
 use Rattle.ranked.proofs.read_off.Tie as tie
 
 abbrev Inv-loop : tie.InvT-loop
-Inv-loop n rows result₀ w h₀ result h = (w ≡ width n) × Reading n rows result₀ result h
+Inv-loop n sizes rows result₀ w h₀ result h = (w ≡ width n) × Reading n rows result₀ result h
 
 abbrev μ-loop : tie.MeasureT-loop
-μ-loop n rows result₀ w h₀ result h = length result₀ - h
+μ-loop n sizes rows result₀ w h₀ result h = length result₀ - h
 
 room : (c : tie.In-loop Inv-loop μ-loop) → RowRoom (c .before .before .before .before .before .args .n) (c .before .before .row-width .result) (c .before .loop .h) (length (c .before .before .before .before .before .args .rows .now))
 room c =
-    let s = c .before .before .before .before .before .pre in
+    let s = c .before .before .before .before .before .pre .1 in
     row-room _ _ _ _ (s .few) (c .before .loop .inv .0) (omega (arith, c .loop-test .taken, s .table, c .before .loop .inv .1 .long)) (s .long)
 
 row-width-requires : tie.Need-row-width-requires Inv-loop μ-loop
@@ -25,20 +25,20 @@ row-width-requires c κs = search needs
 loop-holds : tie.Need-loop-holds Inv-loop μ-loop
 loop-holds c = (c .row-width .ensures, reading-none _ _ _)
 
-size-requires : tie.Need-size-requires Inv-loop μ-loop
-size-requires c κs = omega (arith, room c)
+size-by-requires : tie.Need-size-by-requires Inv-loop μ-loop
+size-by-requires c κs = (omega (arith, room c), c .before .before .before .before .before .pre .0)
 
 mul-place : tie.Need-mul-place Inv-loop μ-loop
 mul-place c = omega (arith, room (c .before))
 
 add-place : tie.Need-add-place Inv-loop μ-loop
-add-place c = omega (arith, room (c .before .before), c .before .size .ensures)
+add-place c = omega (arith, room (c .before .before), c .before .size-by .ensures)
 
 mul-result : tie.Need-mul-result Inv-loop μ-loop
-mul-result c = omega (arith, room (c .before .before), c .before .size .ensures)
+mul-result c = omega (arith, room (c .before .before), c .before .size-by .ensures)
 
 shared-slice-read-result : tie.Need-shared-slice-read-result Inv-loop μ-loop
-shared-slice-read-result c = omega (arith, room (c .before .before .before), c .before .before .size .ensures)
+shared-slice-read-result c = omega (arith, room (c .before .before .before), c .before .before .size-by .ensures)
 
 mul-result-2 : tie.Need-mul-result-2 Inv-loop μ-loop
 mul-result-2 c = search needs
@@ -54,15 +54,15 @@ loop-less c = omega (arith, c .before .before .before .loop-test .taken, c .befo
 
 loop-again : tie.Need-loop-again Inv-loop μ-loop
 loop-again c =
-    let s = c .before .before .before .before .before .before .before .before .pre in
+    let s = c .before .before .before .before .before .before .before .before .pre .1 in
     let v = c .before .before .before .before .loop .inv in
-    (v .0, reading-more (v .1) (omega (arith, c .before .before .before .loop-test .taken, s .table, v .1 .long)) (s .table) _ _ _ (v .0) (c .before .before .size .ensures) refl)
+    (v .0, reading-more (v .1) (omega (arith, c .before .before .before .loop-test .taken, s .table, v .1 .long)) (s .table) _ _ _ (v .0) (c .before .before .size-by .ensures) refl)
 
 same-length : tie.Need-same-length Inv-loop μ-loop
 same-length c = c .before .loop .inv .1 .long
 
 returns : tie.Need-returns Inv-loop μ-loop
-returns c = reading-all (c .before .loop .inv .1) (omega (arith, c .loop-test .left, c .before .before .before .before .before .pre .table, c .before .loop .inv .1 .long))
+returns c = reading-all (c .before .loop .inv .1) (omega (arith, c .loop-test .left, c .before .before .before .before .before .pre .1 .table, c .before .loop .inv .1 .long))
 
 pub read-off-spec : {M : Type 1} → statement M
 read-off-spec =
@@ -72,7 +72,7 @@ read-off-spec =
     μ-loop
     row-width-requires
     loop-holds
-    size-requires
+    size-by-requires
     mul-place
     add-place
     mul-result

@@ -1,9 +1,9 @@
-use Prim.Native.Nat.{ℕ, _+_}
+use mathlib.Core.Path.{refl}
 use native.Mathlib.Omega.{arith}
-use mathlib.Core.Path.{_≡_, refl, ap}
-use lib.ListN.{length, length-set}
+use lib.ListN.{length-set}
 use Rattle.definitions.specs.Sums.{at}
-use Rattle.ranked_theory.specs.Places.{placed-pair}
+use Rattle.ranked_theory.specs.Rows.{stored}
+use Rattle.ranked_theory.specs.Runs.{run-two}
 use borrow.Author.Needs.{needs}
 use Rattle.ranked.proofs.store_pair.Statement.{statement}
 use Rattle.ranked.proofs.store_pair.Tie as tie
@@ -42,7 +42,7 @@ same-length : tie.Need-same-length
 same-length c = search needs
 
 returns : tie.Need-returns
-returns c = placed-pair _ _ _ (c .before .before .pre .1)
+returns c = run-two stored (c .before .before .args .lo) (c .before .before .args .hi) (c .before .before .args .rows .now) _ _ (c .before .before .pre .1) refl refl
 
 pub store-pair-spec : {M : Type 1} → statement M
 store-pair-spec =

@@ -7,10 +7,10 @@ use Rattle.ranked.proofs.store_ranks.Statement.{statement}
 use Rattle.ranked.proofs.store_ranks.Tie as tie
 
 abbrev Inv-loop : tie.InvT-loop
-Inv-loop d count row₀ ranks e₀ row e = Filling (at ranks) (d .0) count row₀ row e
+Inv-loop d count ranks row₀ i₀ row i = Filling (at ranks) (d .0) count row₀ row i
 
 abbrev μ-loop : tie.MeasureT-loop
-μ-loop d count row₀ ranks e₀ row e = count - e
+μ-loop d count ranks row₀ i₀ row i = count - i
 
 loop-holds : tie.Need-loop-holds Inv-loop μ-loop
 loop-holds c = filling-none _ _ _ _
@@ -21,8 +21,8 @@ add-k c = search needs
 mul-row : tie.Need-mul-row Inv-loop μ-loop
 mul-row c = search needs
 
-array-read-row : tie.Need-array-read-row Inv-loop μ-loop
-array-read-row c = search needs
+element-copy-out-row : tie.Need-element-copy-out-row Inv-loop μ-loop
+element-copy-out-row c = search needs
 
 mul-row-2 : tie.Need-mul-row-2 Inv-loop μ-loop
 mul-row-2 c = search needs
@@ -30,14 +30,14 @@ mul-row-2 c = search needs
 slice-write-row : tie.Need-slice-write-row Inv-loop μ-loop
 slice-write-row c = search needs
 
-add-e : tie.Need-add-e Inv-loop μ-loop
-add-e c = search needs
+add-i : tie.Need-add-i Inv-loop μ-loop
+add-i c = search needs
 
 loop-less : tie.Need-loop-less Inv-loop μ-loop
 loop-less c = search needs
 
 loop-again : tie.Need-loop-again Inv-loop μ-loop
-loop-again c = filling-more (c .before .before .loop .inv) (c .before .loop-test .taken) (c .before .before .before .pre .1) _ refl
+loop-again c = filling-more (c .before .before .before .loop .inv) (c .before .before .loop-test .taken) (c .before .before .before .before .pre .1) _ refl
 
 same-length : tie.Need-same-length Inv-loop μ-loop
 same-length c = c .before .loop .inv .long
@@ -54,10 +54,10 @@ store-ranks-spec =
     loop-holds
     add-k
     mul-row
-    array-read-row
+    element-copy-out-row
     mul-row-2
     slice-write-row
-    add-e
+    add-i
     loop-less
     loop-again
     same-length

@@ -21,10 +21,13 @@ abbrev sizesTo : List ℕ → ℕ → ℕ
 sizesTo a h = largest h (λ S. cond (eqb (at a S) 0) 0 (size S))
 
 abbrev Inv-loop : tie.InvT-loop
-Inv-loop n a largest₀ h₀ largest h = (h ≤ length a) × (largest .0 ≡ sizesTo a h)
+Inv-loop n a sizes largest₀ h₀ largest h = (h ≤ length a) × (largest .0 ≡ sizesTo a h)
 
 abbrev μ-loop : tie.MeasureT-loop
-μ-loop n a largest₀ h₀ largest h = length a - h
+μ-loop n a sizes largest₀ h₀ largest h = length a - h
+
+byte-sizes-requires : tie.Need-byte-sizes-requires Inv-loop μ-loop
+byte-sizes-requires c κs = search needs
 
 loop-holds : tie.Need-loop-holds Inv-loop μ-loop
 unfolding largest
@@ -37,7 +40,7 @@ shared-slice-read-counted-size : tie.Need-shared-slice-read-counted-size Inv-loo
 shared-slice-read-counted-size c = search needs
 
 counted-size-requires : tie.Need-counted-size-requires Inv-loop μ-loop
-counted-size-requires c κs = omega (arith, c .before .loop-test .taken, c .before .before .before .before .pre, pow-mono (c .before .before .before .before .pre .0))
+counted-size-requires c κs = (c .before .before .before .before .byte-sizes .ensures, omega (arith, c .before .before .loop-test .taken, c .before .before .before .before .before .before .pre, pow-mono (c .before .before .before .before .before .before .pre .0)))
 
 larger-requires : tie.Need-larger-requires Inv-loop μ-loop
 larger-requires c κs = search needs
@@ -50,14 +53,14 @@ loop-less c = search needs
 
 loop-again : tie.Need-loop-again Inv-loop μ-loop
 loop-again c =
-    let a = c .before .before .before .before .before .before .args .a .now in
-    let at = c .before .before .before .before .loop in
+    let a = c .before .before .before .before .before .before .before .before .args .a .now in
+    let at = c .before .before .before .before .before .loop in
     (omega arith, c .larger .ensures ∙ ap₂ max (at .inv .1) (c .before .counted-size .ensures) ∙ sym (ap (λ (k : ℕ). sizesTo a k) (add-one (at .h)) ∙ largest-last (at .h) _))
 
 returns : tie.Need-returns Inv-loop μ-loop
 unfolding degree
 returns c =
-    let s = c .before .before .before in
+    let s = c .before .before .before .before in
     let at = c .before .loop in
     at .inv .1 ∙ ap (sizesTo (s .args .a .now)) (le-antisymm (at .inv .0) (c .loop-test .left) ∙ s .pre .1)
 
@@ -67,6 +70,7 @@ degree-spec =
     (tie.spec
     Inv-loop
     μ-loop
+    byte-sizes-requires
     loop-holds
     mul-counted-size
     shared-slice-read-counted-size

@@ -1,0 +1,165 @@
+use native.Mathlib.Omega.{arith}
+use Rattle.ranked_theory.specs.Rows.{minus}
+use Rattle.ranked_theory.specs.Runs.{first-lower, first-upper, run-four, stores-within}
+use borrow.Author.Needs.{needs}
+use Rattle.ranked.proofs.subtract_four.Statement.{statement}
+use Rattle.ranked.proofs.subtract_four.Tie as tie
+
+add-lo1 : tie.Need-add-lo1
+add-lo1 c = search needs
+
+add-lo2 : tie.Need-add-lo2
+add-lo2 c = search needs
+
+add-lo3 : tie.Need-add-lo3
+add-lo3 c = search needs
+
+add-hi1 : tie.Need-add-hi1
+add-hi1 c = search needs
+
+add-hi2 : tie.Need-add-hi2
+add-hi2 c = search needs
+
+add-hi3 : tie.Need-add-hi3
+add-hi3 c = search needs
+
+mul-subtract : tie.Need-mul-subtract
+mul-subtract c = search needs
+
+slice-read-subtract : tie.Need-slice-read-subtract
+slice-read-subtract c = search needs
+
+mul-subtract-2 : tie.Need-mul-subtract-2
+mul-subtract-2 c = search needs
+
+slice-read-subtract-2 : tie.Need-slice-read-subtract-2
+slice-read-subtract-2 c = search needs
+
+subtract-requires : tie.Need-subtract-requires
+subtract-requires c κs =
+    let s = c .before .before .before in
+    (s .pre .0, record { first = first-upper _ _ _ _ _ (s .pre .1) (omega arith); second = first-lower _ _ _ _ _ (s .pre .1) (omega arith) })
+
+mul-subtract-3 : tie.Need-mul-subtract-3
+mul-subtract-3 c = search needs
+
+slice-read-subtract-3 : tie.Need-slice-read-subtract-3
+slice-read-subtract-3 c = search needs
+
+mul-subtract-4 : tie.Need-mul-subtract-4
+mul-subtract-4 c = search needs
+
+slice-read-subtract-4 : tie.Need-slice-read-subtract-4
+slice-read-subtract-4 c = search needs
+
+subtract-requires-2 : tie.Need-subtract-requires-2
+subtract-requires-2 c κs =
+    let s = c .before .before .before .before .before .before in
+    (s .pre .0, record { first = s .pre .1 .upper 1 (omega arith); second = s .pre .1 .lower 1 (omega arith) })
+
+mul-subtract-5 : tie.Need-mul-subtract-5
+mul-subtract-5 c = search needs
+
+slice-read-subtract-5 : tie.Need-slice-read-subtract-5
+slice-read-subtract-5 c = search needs
+
+mul-subtract-6 : tie.Need-mul-subtract-6
+mul-subtract-6 c = search needs
+
+slice-read-subtract-6 : tie.Need-slice-read-subtract-6
+slice-read-subtract-6 c = search needs
+
+subtract-requires-3 : tie.Need-subtract-requires-3
+subtract-requires-3 c κs =
+    let s = c .before .before .before .before .before .before .before .before .before in
+    (s .pre .0, record { first = s .pre .1 .upper 2 (omega arith); second = s .pre .1 .lower 2 (omega arith) })
+
+mul-subtract-7 : tie.Need-mul-subtract-7
+mul-subtract-7 c = search needs
+
+slice-read-subtract-7 : tie.Need-slice-read-subtract-7
+slice-read-subtract-7 c = search needs
+
+mul-subtract-8 : tie.Need-mul-subtract-8
+mul-subtract-8 c = search needs
+
+slice-read-subtract-8 : tie.Need-slice-read-subtract-8
+slice-read-subtract-8 c = search needs
+
+subtract-requires-4 : tie.Need-subtract-requires-4
+subtract-requires-4 c κs =
+    let s = c .before .before .before .before .before .before .before .before .before .before .before .before in
+    (s .pre .0, record { first = s .pre .1 .upper 3 (omega arith); second = s .pre .1 .lower 3 (omega arith) })
+
+mul-rows : tie.Need-mul-rows
+mul-rows c = search needs
+
+slice-write-rows : tie.Need-slice-write-rows
+slice-write-rows c = search needs
+
+mul-rows-2 : tie.Need-mul-rows-2
+mul-rows-2 c = search needs
+
+slice-write-rows-2 : tie.Need-slice-write-rows-2
+slice-write-rows-2 c = stores-within _ (c .before .before .before .before .before .before .before .before .before .subtract .result) (c .before .before .before .before .before .before .subtract2 .result) (c .before .before .before .subtract3 .result) (c .before .before .before .before .before .before .before .before .before .before .before .before .before .args .rows .now) (c .before .before .before .before .before .before .before .before .before .before .before .before .before .pre .1 .long) .0
+
+mul-rows-3 : tie.Need-mul-rows-3
+mul-rows-3 c = search needs
+
+slice-write-rows-3 : tie.Need-slice-write-rows-3
+slice-write-rows-3 c = stores-within _ (c .before .before .before .before .before .before .before .before .before .subtract .result) (c .before .before .before .before .before .before .subtract2 .result) (c .before .before .before .subtract3 .result) (c .before .before .before .before .before .before .before .before .before .before .before .before .before .args .rows .now) (c .before .before .before .before .before .before .before .before .before .before .before .before .before .pre .1 .long) .1
+
+mul-rows-4 : tie.Need-mul-rows-4
+mul-rows-4 c = search needs
+
+slice-write-rows-4 : tie.Need-slice-write-rows-4
+slice-write-rows-4 c = stores-within _ (c .before .before .before .before .before .before .before .before .before .subtract .result) (c .before .before .before .before .before .before .subtract2 .result) (c .before .before .before .subtract3 .result) (c .before .before .before .before .before .before .before .before .before .before .before .before .before .args .rows .now) (c .before .before .before .before .before .before .before .before .before .before .before .before .before .pre .1 .long) .2
+
+same-length : tie.Need-same-length
+same-length c = search needs
+
+returns : tie.Need-returns
+returns c =
+    let a = c .before .before .before .before .before .before .before .before .before .before .before .before .before .args in
+    run-four (minus (a .modulus .value)) (a .lo) (a .hi) (a .rows .now) (c .before .before .before .before .before .before .before .before .before .subtract .result) (c .before .before .before .before .before .before .subtract2 .result) (c .before .before .before .subtract3 .result) (c .subtract4 .result) (c .before .before .before .before .before .before .before .before .before .before .before .before .before .pre .1 .long) (c .before .before .before .before .before .before .before .before .before .subtract .ensures .same) (c .before .before .before .before .before .before .subtract2 .ensures .same) (c .before .before .before .subtract3 .ensures .same) (c .subtract4 .ensures .same)
+
+pub subtract-four-spec : {M : Type 1} → statement M
+subtract-four-spec =
+    tie.close
+    (tie.spec
+    add-lo1
+    add-lo2
+    add-lo3
+    add-hi1
+    add-hi2
+    add-hi3
+    mul-subtract
+    slice-read-subtract
+    mul-subtract-2
+    slice-read-subtract-2
+    subtract-requires
+    mul-subtract-3
+    slice-read-subtract-3
+    mul-subtract-4
+    slice-read-subtract-4
+    subtract-requires-2
+    mul-subtract-5
+    slice-read-subtract-5
+    mul-subtract-6
+    slice-read-subtract-6
+    subtract-requires-3
+    mul-subtract-7
+    slice-read-subtract-7
+    mul-subtract-8
+    slice-read-subtract-8
+    subtract-requires-4
+    mul-rows
+    slice-write-rows
+    mul-rows-2
+    slice-write-rows-2
+    mul-rows-3
+    slice-write-rows-3
+    mul-rows-4
+    slice-write-rows-4
+    same-length
+    returns)
