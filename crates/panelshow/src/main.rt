@@ -1,0 +1,13 @@
+// Shows a table file from standard input: n and m, then each nonzero entry with its code and size, or `refused` and the number.
+use libc::STDIN_FILENO;
+use libc::STDOUT_FILENO;
+
+fn main() {
+    // The longest file of 8 controls has 1,286 bytes, so that any byte behind its end is read too.
+    let mut input = io::buffer();
+    let count = io::read_full(STDIN_FILENO, &mut input);
+    let mut table = [0u32; 256];
+    let mut text = [0u8; 8470];
+    let length = table_show::show(&input[..count], &mut table, &mut text);
+    io::write_all(STDOUT_FILENO, &text[..length]);
+}

@@ -1,0 +1,78 @@
+-- The steps of showing a file.
+use mathlib.Core.Path.{_≡_, sym, _∙_, ap}
+use mathlib.Core.List.{List, [], _∷_, _++_}
+use Prim.Native.Nat.{ℕ, _+_, _^_, _≤_}
+use native.Mathlib.Omega.{arith}
+use lib.ListN.{length, drop, take}
+use lib.Pow.{pow-mono}
+use lib.Seq.{take-append-seam, length-take-le}
+use Rattle.definitions.specs.Limits.{mostShown}
+use Rattle.definitions.specs.Outcomes.{Outcome, accepted, refused, andThen, numberOf}
+use Rattle.definitions.specs.Files.{Header, readHeader, readBody}
+use Rattle.definitions.specs.Show.{tableText, refusalText, readShown, textOf, shown, line}
+use Rattle.number_groups.specs.Stores.{sets-front}
+use Rattle.table_file.specs.Entries.{entriesToEnd, numbersFrom, headerAt}
+use Rattle.table_file.specs.HeaderAnswers.{openingOutcome}
+use Rattle.table_file.specs.Words.{accepts, refuses, proper-body}
+use Rattle.table_file.specs.Reading.{body-number, body-table, fileRead, header-few, length-numbers}
+use Rattle.table_file.specs.declared.header.OpeningAnswer.the-variants as opening
+use Rattle.table_show.specs.Text.{Writes, Shows, headedText, linesTo, longestText, TableFits}
+use Rattle.table_show.specs.TextLaws.{writes-length}
+
+-- ---- behind a header
+
+module _ (h : Header) {long word : ℕ} (as-long : long ≡ 2 ^ h .controls) (tested : word ≡ numberOf (entriesToEnd long (h .modulus) (h .rest))) where
+  body-word : word ≡ numberOf (readBody h)
+  body-word = tested ∙ ap (λ (k : ℕ). numberOf (entriesToEnd k (h .modulus) (h .rest))) as-long ∙ sym (body-number h)
+
+  pub refused-text : (word ≡ 0 → ⊥) → refusalText word ≡ textOf (readBody h)
+  refused-text d =
+      ap textOf (ap refused body-word ∙ sym (refuses (readBody h) (λ z. d (body-word ∙ z))))
+
+  pub file-text : word ≡ 0 → {table : List ℕ} → table ≡ numbersFrom long (h .rest) → headedText (h .controls) (h .modulus) table ≡ textOf (readBody h)
+  unfolding tableText
+  file-text z {table} e =
+      let a = accepts (readBody h) (proper-body h) (sym body-word ∙ z) in
+      let outcome : readBody h ≡ accepted (fileRead h) = a .1 ∙ ap accepted (sym (body-table h (a .0) (a .1))) in
+      let entries : table ≡ numbersFrom (2 ^ h .controls) (h .rest) = e ∙ ap (λ (k : ℕ). numbersFrom k (h .rest)) as-long in
+      let size : length table ≡ 2 ^ h .controls = ap length entries ∙ length-numbers (2 ^ h .controls) (h .rest) in
+      ap (λ (k : ℕ). line (h .controls) (h .modulus ∷ []) ++ linesTo table k) size
+      ∙ ap (λ (l : List ℕ). line (h .controls) (h .modulus ∷ []) ++ linesTo l (2 ^ h .controls)) entries
+      ∙ ap textOf (sym outcome)
+
+-- at most 256 entries
+pub few-entries : {n : ℕ} → n ≤ mostShown → 2 ^ n ≤ 256
+few-entries few = pow-mono few
+
+pub table-fits : {n : ℕ} {table out : List ℕ} → n ≤ mostShown → length table ≡ 2 ^ n → longestText ≤ length out → TableFits table out
+table-fits few e h = record { few = omega (arith, few-entries few); room = omega (arith, few-entries few) }
+
+-- the part of the workspace that is lent
+pub part-long : {n count : ℕ} (table : List ℕ) → n ≤ mostShown → count ≡ 2 ^ n → 256 ≤ length table → length (take count table) ≡ count
+part-long {n} {count} table few e h = length-take-le count table (omega (arith, few-entries few))
+
+-- ---- the whole
+
+-- the text is at the start
+shows : (bytes old : List ℕ) {text last : List ℕ} {next : ℕ} → text ≡ shown bytes → Writes old 0 text next last → Shows bytes next last
+shows bytes old {text} {last} {next} e w =
+    let place : next ≡ length text = omega (arith, w .next-is) in
+    let form : last ≡ text ++ drop (length text) old = w .text-is ∙ sets-front old text (omega (arith, w .within, writes-length w)) in
+    record { within = w .within; counted = sym (length-take-le next last (w .within)); same = rw (place, form) (take-append-seam text (drop (length text) old) ∙ e) }
+
+module _ (bytes old : List ℕ) {r : _} (opened : openingOutcome bytes r ≡ readHeader mostShown bytes) where
+  opened-as : (o : _) → r ≡ o → andThen (openingOutcome bytes o) readBody ≡ readShown bytes
+  unfolding readShown
+  opened-as o e = ap (λ (p : Outcome Header). andThen p readBody) (ap (openingOutcome bytes) (sym e) ∙ opened)
+
+  pub no-header : {word next : ℕ} {last : List ℕ} → r ≡ opening.Refused word →
+      Writes old 0 (refusalText word) next last → Shows bytes next last
+  no-header e w = shows bytes old (ap textOf (opened-as (opening.Refused _) e)) w
+
+  module _ {o : _} (e : r ≡ opening.Opening o) where
+    pub few : o .n ≤ mostShown
+    few = header-few mostShown bytes (headerAt bytes o) (sym (ap (openingOutcome bytes) (sym e) ∙ opened))
+
+    pub behind-header : {next : ℕ} {last : List ℕ} →
+        Writes old 0 (textOf (readBody (headerAt bytes o))) next last → Shows bytes next last
+    behind-header w = shows bytes old (ap textOf (opened-as (opening.Opening o) e)) w

@@ -1,0 +1,50 @@
+// A table file of at most 8 controls as text.
+ghost use mathlib.Core.Path.{_≡_};
+ghost use Prim.Native.Nat.{_^_, _≤_};
+ghost use lib.ListN.{length};
+ghost use Rattle.definitions.specs.Limits.{mostShown};
+ghost use Rattle.definitions.specs.Show.{textOf};
+ghost use Rattle.definitions.specs.Files.{readBody};
+ghost use Rattle.table_file.specs.Entries.{headerAt};
+ghost use Rattle.table_show.specs.Text.{Writes, Lent, Shows, longestText};
+use crate::text::write_refusal;
+use crate::text::write_table_text;
+use checks::power;
+use table_file::Opening;
+use table_file::OpeningAnswer;
+use table_file::entries_word;
+use table_file::fill_table;
+use table_file::read_opening;
+
+// The most controls that are shown.
+const MOST_SHOWN: u32 = 8;
+
+// The text of what stands behind a header. The table has as many entries as the header says.
+fn show_table(opening: Opening, bytes: &[u8], table: &mut [u32], out: &mut [u8]) -> usize
+    requires { ⌜ opening .n ≤ mostShown ⌝ }
+    requires { ⌜ length (now table) ≡ 2 ^ opening .n ⌝ }
+    requires { ⌜ longestText ≤ length (now out) ⌝ }
+    ensures { λ r. ⌜ Writes (now (out .entry)) 0 (textOf (readBody (headerAt (now (bytes .entry)) opening))) r (now (out .exit)) ⌝ }
+{
+    let word = entries_word(opening.m, table.len(), bytes, opening.next);
+    if word != 0 {
+        return write_refusal(word, out);
+    }
+    fill_table(bytes, opening.next, table);
+    write_table_text(opening.n, opening.m, table, out)
+}
+
+// Puts what `panelshow` prints of some bytes at the start of the buffer, and answers how many bytes that are. The table is a
+// workspace.
+pub fn show(bytes: &[u8], table: &mut [u32], out: &mut [u8]) -> usize
+    requires { ⌜ Lent (now table) (now out) ⌝ }
+    ensures { λ r. ⌜ Shows (now (bytes .entry)) r (now (out .exit)) ⌝ }
+{
+    match read_opening(MOST_SHOWN, bytes) {
+        OpeningAnswer::Opening(opening) => {
+            let count = power(opening.n);
+            show_table(opening, bytes, &mut table[..count], out)
+        }
+        OpeningAnswer::Refused(word) => write_refusal(word, out),
+    }
+}
