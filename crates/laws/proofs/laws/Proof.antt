@@ -47,43 +47,43 @@ abbrev at-start : tie.After-slice-known48 → tie.Start
 at-start c = at-sum c .before .before .before .before .before .before .before .before .before .before .before .before .before .before .before .before .before .before .before .before .before .before .before .before .before .before .before .before .before .before .before
 
 sum-requires : tie.Need-sum-requires
-sum-requires c κs = search needs
+sum-requires c κs = tt
 
 exponential-requires : tie.Need-exponential-requires
-exponential-requires c κs = search needs
+exponential-requires c κs = tt
 
 exponential-requires-2 : tie.Need-exponential-requires-2
-exponential-requires-2 c κs = search needs
+exponential-requires-2 c κs = tt
 
 exponential-requires-3 : tie.Need-exponential-requires-3
-exponential-requires-3 c κs = search needs
+exponential-requires-3 c κs = tt
 
 subset-product-requires : tie.Need-subset-product-requires
-subset-product-requires c κs = search needs
+subset-product-requires c κs = tt
 
 logarithm-requires : tie.Need-logarithm-requires
-logarithm-requires c κs = search needs
+logarithm-requires c κs = tt
 
 logarithm-requires-2 : tie.Need-logarithm-requires-2
-logarithm-requires-2 c κs = search needs
+logarithm-requires-2 c κs = tt
 
 exponential-requires-4 : tie.Need-exponential-requires-4
-exponential-requires-4 c κs = search needs
+exponential-requires-4 c κs = tt
 
 binomial-product-requires : tie.Need-binomial-product-requires
-binomial-product-requires c κs = search needs
+binomial-product-requires c κs = tt
 
 composition-requires : tie.Need-composition-requires
-composition-requires c κs = search needs
+composition-requires c κs = tt
 
 composition-requires-2 : tie.Need-composition-requires-2
-composition-requires-2 c κs = search needs
+composition-requires-2 c κs = tt
 
 composition-requires-3 : tie.Need-composition-requires-3
-composition-requires-3 c κs = search needs
+composition-requires-3 c κs = tt
 
 subset-product-requires-2 : tie.Need-subset-product-requires-2
-subset-product-requires-2 c κs = search needs
+subset-product-requires-2 c κs = tt
 
 same-length : tie.Need-same-length
 same-length c = at-sum c .sum .kept .1 .1 .1 .1 .0
