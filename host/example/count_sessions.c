@@ -38,7 +38,6 @@ static void show_table(uint32_t n) {
     if (shown > most) printf("  and %d sets more\n", shown - most);
 }
 
-#ifdef HAS_sps_exponential
 static void count_sessions(uint32_t n, uint32_t m) {
     const size_t length = SPS_TABLE_LENGTH(n), pad_length = SPS_PAD_LENGTH(n);
     uint32_t *sessions = malloc(length * sizeof *sessions);
@@ -63,12 +62,6 @@ static void show_sessions(uint32_t n, uint32_t m) {
         if (others[i] != m) count_sessions(n, others[i]);
     }
 }
-#else
-static void show_sessions(uint32_t n, uint32_t m) {
-    (void)n, (void)m;
-    printf("sessions are not counted: this library has no exponential yet\n");
-}
-#endif
 
 int main(int count, char **words) {
     if (count != 2) {
