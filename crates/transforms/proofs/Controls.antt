@@ -3,19 +3,19 @@ use mathlib.Core.Path.{_≡_, sym, ap, _∙_}
 use mathlib.Core.Bool.{Bool, true, false, cond}
 use mathlib.Core.List.{List}
 use mathlib.Core.Logic.{⊎-elim}
-use Prim.Native.Nat.{ℕ, _+_, _-_, _/_, _%_, _^_, _<_, _≤_}
+use Prim.Native.Nat.{ℕ, zero, suc, _+_, _-_, _/_, _%_, _^_, _<_, _≤_}
 use native.Mathlib.Nat.{mod-lt}
 use native.Mathlib.Numerals.{add-one}
 use native.Mathlib.Omega.{arith}
 use lib.Dec.{eqb}
-use lib.ListN.{length, List·getD-eq-default}
+use lib.ListN.{List·getD-eq-default}
 use Rattle.definitions.specs.Sums.{tabulate, at}
 use Rattle.theory.specs.Tests.{below-or}
 use Rattle.theory.specs.Lists.{length-tabulate, at-tabulate}
 use Rattle.theory.specs.Passes.{pass, passes, passes-none, passes-more}
 use Rattle.theory.specs.Convolution.{transformed}
 use Rattle.checks.specs.Accepted.{IsTable}
-use Rattle.transforms.specs.Steps.{lowerOf, upperOf, Transformed}
+use Rattle.transforms.specs.Steps.{lowerOf, upperOf, Applying, Transformed}
 use Rattle.transforms.specs.declared.Transform.{Transform}
 use Rattle.transforms.specs.declared.Transform.the-variants.{Zeta, Moebius, Walsh}
 
@@ -46,19 +46,17 @@ tabulated {m} n {f} h =
     }
 
 module _ (m : ℕ) (t : Transform) where
-  pass-below : (i : ℕ) (f : ℕ → ℕ) → ((S : ℕ) → f S < m) → (S : ℕ) → pass (lowerOf m t) (upperOf m t) i f S < m
+  pub pass-below : (i : ℕ) (f : ℕ → ℕ) → ((S : ℕ) → f S < m) → (S : ℕ) → pass (lowerOf m t) (upperOf m t) i f S < m
   unfolding pass
   pass-below i f h S =
       either-below (eqb (S / 2 ^ i % 2) 1) (upper-below (h (S - 2 ^ i)) (h S) t) (lower-below (h S) (h (S + 2 ^ i)) t)
 
-  -- ---- the loop
+  pub passes-below : (i : ℕ) (f : ℕ → ℕ) → ((S : ℕ) → f S < m) → (S : ℕ) → passes (lowerOf m t) (upperOf m t) i f S < m
+  unfolding passes
+  passes-below zero f h S = h S
+  passes-below (suc i) f h S = pass-below i _ (passes-below i f h) S
 
-  -- l is what is left of the table xs after i controls
-  pub record Applying (n : ℕ) (xs : List ℕ) (i : ℕ) (l : List ℕ) : Type 0 where
-    pub within : i ≤ n
-    pub size : length xs ≡ 2 ^ n
-    pub table : IsTable n m l
-    pub is : l ≡ tabulate (2 ^ n) (passes (lowerOf m t) (upperOf m t) i (at xs))
+-- ---- the loop
 
 module _ {m : ℕ} {t : Transform} {n : ℕ} {xs : List ℕ} where
   pub none : IsTable n m xs → Applying m t n xs 0 xs
@@ -91,3 +89,22 @@ module _ {m : ℕ} {t : Transform} {n : ℕ} {xs : List ℕ} where
           is = h .is ∙ ap (λ (j : ℕ). tabulate (2 ^ n) (passes (lowerOf m t) (upperOf m t) j (at xs))) e;
           table = h .table;
         }
+
+-- what the loop from a control on has of the table k so far
+pub record Remaining (m : ℕ) (t : Transform) (n from : ℕ) (k : List ℕ) (i : ℕ) (l : List ℕ) : Type 0 where
+  pub within : i ≤ n
+  pub table : IsTable n m l
+  pub applying : (xs : List ℕ) → Applying m t n xs from k → Applying m t n xs i l
+
+module _ {m : ℕ} {t : Transform} {n from : ℕ} {k : List ℕ} where
+  pub begun : from ≤ n → IsTable n m k → Remaining m t n from k from k
+  begun e h = record { within = e; table = h; applying = λ xs a. a }
+
+  pub pass-more : {i : ℕ} {l : List ℕ} → Remaining m t n from k i l → i < n → {new : List ℕ}
+      → new ≡ tabulate (2 ^ n) (pass (lowerOf m t) (upperOf m t) i (at l)) → Remaining m t n from k (i + 1) new
+  pass-more {i} {l} h lt e =
+      record {
+        within = omega arith;
+        table = rw e (tabulated n (pass-below m t i (at l) (h .table .below)));
+        applying = λ xs a. one-more (h .applying xs a) lt e;
+      }

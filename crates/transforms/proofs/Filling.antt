@@ -21,9 +21,12 @@ module _ {f : ℕ → ℕ} {r : List ℕ} where
   fresh = record { within = omega arith; long = refl; is = filled-none f r }
 
   module _ {i : ℕ} {l : List ℕ} (h : Filling f r i l) where
-    -- what stands there before the turn
+    -- what stands there before the turn, and behind
+    pub unset-from : (k : ℕ) → at l (i + k) ≡ at r (i + k)
+    unset-from k = ap (λ (u : List ℕ). at u (i + k)) (h .is) ∙ at-filled f i r k
+
     pub unset : at l i ≡ at r i
-    unset = ap (λ (k : List ℕ). at k i) (h .is) ∙ (rw (add-zero i) at (at-filled f i r 0))
+    unset = rw (add-zero i) at (unset-from 0)
 
     pub next : {v : ℕ} → v ≡ f i → i < length r → Filling f r (i + 1) (set l i v)
     next {v} e k = record { within = omega arith; long = length-set l i v ∙ h .long; is = turn f i r (h .is) e k }

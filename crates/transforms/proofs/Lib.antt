@@ -2,6 +2,7 @@ mod Blocks
 mod Table
 mod Controls
 mod Filling
+mod Fours
 mod Halving
 mod Steps
 mod Calls

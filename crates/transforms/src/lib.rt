@@ -1,7 +1,8 @@
 // Union and xor product: transforms that act on one control at a time turn each of them into a product entry by entry.
 // With n controls a transform, and so a product, takes some n · 2^n steps.
 ghost use mathlib.Core.Path.{_≡_};
-ghost use Prim.Native.Nat.{_+_, _-_, _*_, _%_, _^_, _<_};
+ghost use mathlib.Core.List.{List};
+ghost use Prim.Native.Nat.{ℕ, _+_, _-_, _*_, _%_, _^_, _<_, _≤_};
 ghost use lib.ListN.{length};
 ghost use Rattle.definitions.specs.Limits.{padLength};
 ghost use Rattle.definitions.specs.Sums.{tabulate, at};
@@ -12,7 +13,7 @@ ghost use Rattle.theory.specs.Convolution.{pointTable};
 ghost use Rattle.residues.specs.Moduli.{Valid, Below};
 ghost use Rattle.checks.specs.Accepted.{Entries};
 ghost use Rattle.checks.specs.Answers.{IsChecked};
-ghost use Rattle.transforms.specs.Steps.{lowerOf, upperOf, Gives, Ready, Transformed, Inputs, Halves, products};
+ghost use Rattle.transforms.specs.Steps.{lowerOf, upperOf, Gives, FourBelow, FourOf, CanCrossFour, crossedFour, Ready, Applying, Transformed, Inputs, Halves, products};
 use checks::Checked;
 use residues::Modulus;
 
@@ -25,6 +26,14 @@ enum Transform {
     Moebius,
     // x + y and x - y; made twice it multiplies by 2 for each control
     Walsh,
+}
+
+// The entries of four sets: one with neither of two controls, and the same with the first, the second and both of them.
+struct Four {
+    neither: u32,
+    first: u32,
+    second: u32,
+    both: u32,
 }
 
 impl Transform {
@@ -51,6 +60,84 @@ impl Transform {
             Transform::Zeta => modulus.add(y, x),
             Transform::Moebius => modulus.subtract(y, x),
             Transform::Walsh => modulus.subtract(x, y),
+        }
+    }
+
+    // Two controls: the new entries of the four sets.
+    fn four(self, modulus: Modulus, x: Four) -> Four
+        requires { ⌜ Valid modulus ⌝ }
+        requires { ⌜ FourBelow (modulus .value) x ⌝ }
+        ensures { λ r. ⌜ FourOf (lowerOf (modulus .value) self) (upperOf (modulus .value) self) x r ⌝ }
+    {
+        match self {
+            Transform::Zeta => {
+                let first = modulus.add(x.first, x.neither);
+                let both = modulus.add(x.both, x.second);
+                Four {
+                    neither: x.neither,
+                    first: first,
+                    second: modulus.add(x.second, x.neither),
+                    both: modulus.add(both, first),
+                }
+            }
+            Transform::Moebius => {
+                let first = modulus.subtract(x.first, x.neither);
+                let both = modulus.subtract(x.both, x.second);
+                Four {
+                    neither: x.neither,
+                    first: first,
+                    second: modulus.subtract(x.second, x.neither),
+                    both: modulus.subtract(both, first),
+                }
+            }
+            Transform::Walsh => {
+                let neither = modulus.add(x.neither, x.first);
+                let first = modulus.subtract(x.neither, x.first);
+                let second = modulus.add(x.second, x.both);
+                let both = modulus.subtract(x.second, x.both);
+                Four {
+                    neither: modulus.add(neither, second),
+                    first: modulus.add(first, both),
+                    second: modulus.subtract(neither, second),
+                    both: modulus.subtract(first, both),
+                }
+            }
+        }
+    }
+
+    // The first two controls, in the four entries from a place on.
+    fn cross_four(self, modulus: Modulus, start: usize, table: &mut [u32])
+        requires { ⌜ Valid modulus ⌝ }
+        requires { ⌜ CanCrossFour (modulus .value) start (now table) ⌝ }
+        ensures { λ _. ⌜ now (table .exit) ≡ crossedFour (lowerOf (modulus .value) self) (upperOf (modulus .value) self) start (now (table .entry)) ⌝ }
+    {
+        let first = start + 1;
+        let second = start + 2;
+        let both = start + 3;
+        let x = Four {
+            neither: table[start],
+            first: table[first],
+            second: table[second],
+            both: table[both],
+        };
+        let y = self.four(modulus, x);
+        table[start] = y.neither;
+        table[first] = y.first;
+        table[second] = y.second;
+        table[both] = y.both;
+    }
+
+    // The first two controls of a table. Their blocks are too short for a loop of their own.
+    fn first_two(self, n: u32, modulus: Modulus, table: &mut [u32])
+        requires { ⌜ Ready n modulus (now table) ⌝ }
+        requires { ⌜ 1 < n ⌝ }
+        ensures { λ _. ⌜ Applying (modulus .value) self n (now (table .entry)) 2 (now (table .exit)) ⌝ }
+    {
+        let blocks = checks::power(n - 2);
+        let mut block = 0;
+        while block < blocks {
+            self.cross_four(modulus, 4 * block, table);
+            block += 1;
         }
     }
 
@@ -89,15 +176,29 @@ impl Transform {
         }
     }
 
+    // The controls of a table from one on.
+    fn remaining(self, n: u32, modulus: Modulus, from: u32, table: &mut [u32])
+        requires { ⌜ Ready n modulus (now table) ⌝ }
+        requires { ⌜ from ≤ n ⌝ }
+        ensures { λ _. ⌜ ((xs : List ℕ) → Applying (modulus .value) self n xs from (now (table .entry)) → Transformed (modulus .value) self n xs (now (table .exit))) ⌝ }
+    {
+        let mut i = from;
+        while i < n {
+            self.pass(n, modulus, i, table);
+            i += 1;
+        }
+    }
+
     // All controls of a table.
     fn apply(self, n: u32, modulus: Modulus, table: &mut [u32])
         requires { ⌜ Ready n modulus (now table) ⌝ }
         ensures { λ _. ⌜ Transformed (modulus .value) self n (now (table .entry)) (now (table .exit)) ⌝ }
     {
-        let mut i = 0;
-        while i < n {
-            self.pass(n, modulus, i, table);
-            i += 1;
+        if n < 2 {
+            self.remaining(n, modulus, 0, table);
+        } else {
+            self.first_two(n, modulus, table);
+            self.remaining(n, modulus, 2, table);
         }
     }
 }

@@ -1,48 +1,37 @@
-use Prim.Native.Nat.{_-_}
-use native.Mathlib.Omega.{arith}
-use Rattle.transforms.proofs.Controls.{Applying, none, one-more, all}
+use Rattle.transforms.proofs.Controls.{none}
+use borrow.Author.Needs.{needs}
 use Rattle.transforms.proofs.Transform.apply.Statement.{statement}
 use Rattle.transforms.proofs.Transform.apply.Tie as tie
 
-abbrev Inv-loop : tie.InvT-loop
-Inv-loop self n modulus table₀ i₀ table i = Applying (modulus .value) self n table₀ i table
+remaining-requires : tie.Need-remaining-requires
+remaining-requires c κs = search needs
 
-abbrev μ-loop : tie.MeasureT-loop
-μ-loop self n modulus table₀ i₀ table i = n - i
+first-two-requires : tie.Need-first-two-requires
+first-two-requires c κs = search needs
 
-loop-holds : tie.Need-loop-holds Inv-loop μ-loop
-loop-holds c = none (c .before .pre .table)
+remaining-requires-2 : tie.Need-remaining-requires-2
+remaining-requires-2 c κs = search needs
 
-pass-requires : tie.Need-pass-requires Inv-loop μ-loop
-pass-requires c κs =
-    let first = c .before .before .before .before .pre in
-    (record { few = first .few; valid = first .valid; table = c .before .before .loop .inv .table }, omega arith)
+same-length : tie.Need-same-length
+same-length c = search needs
 
-add-i : tie.Need-add-i Inv-loop μ-loop
-add-i c = omega arith
+returns : tie.Need-returns
+returns c = c .before .before .remaining .ensures _ (none (c .before .before .before .before .before .before .pre .table))
 
-loop-less : tie.Need-loop-less Inv-loop μ-loop
-loop-less c = omega arith
+same-length-2 : tie.Need-same-length-2
+same-length-2 c = search needs
 
-loop-again : tie.Need-loop-again Inv-loop μ-loop
-loop-again c = one-more (c .before .before .before .before .before .loop .inv) (omega arith) (c .before .before .pass .ensures)
-
-same-length : tie.Need-same-length Inv-loop μ-loop
-same-length c = omega (arith, c .before .loop .inv .table .size, c .before .loop .inv .size)
-
-returns : tie.Need-returns Inv-loop μ-loop
-returns c = all (c .before .loop .inv) (omega arith)
+returns-2 : tie.Need-returns-2
+returns-2 c = c .before .before .remaining2 .ensures _ (c .before .before .before .before .before .before .first-two .ensures)
 
 pub apply-spec : {M : Type 1} → statement M
 apply-spec =
     tie.close
     (tie.spec
-    Inv-loop
-    μ-loop
-    loop-holds
-    pass-requires
-    add-i
-    loop-less
-    loop-again
+    remaining-requires
+    first-two-requires
+    remaining-requires-2
     same-length
-    returns)
+    returns
+    same-length-2
+    returns-2)
