@@ -3,7 +3,7 @@ use libc::STDIN_FILENO;
 use libc::STDOUT_FILENO;
 
 fn main() {
-    // The longest file of 8 controls has 1,286 bytes, so that any byte behind its end is read too.
+    // 4,096 bytes: the first 1,291 decide what is printed (`shown-start` of table_show's specs/Start), however long the input.
     let mut input = io::buffer();
     let count = io::read_full(STDIN_FILENO, &mut input);
     let mut table = [0u32; 256];

@@ -309,10 +309,10 @@ impl SetCode {
         requires { ⌜ ByteSizes (now sizes) ⌝ }
         ensures { λ r. ⌜ r .0 ≡ size (self .0) ⌝ }
     {
-        let code = self.0;
-        let high = code / 65536;
-        let middle = code / 256 % 256;
-        let low = code % 256;
+        let c = self.0;
+        let high = c / 65536;
+        let middle = c / 256 % 256;
+        let low = c % 256;
         SetSize(wide(sizes[high]) + wide(sizes[middle]) + wide(sizes[low]))
     }
 }

@@ -30,7 +30,9 @@ last-group-requires : tie.Need-last-group-requires Inv-loop μ-loop
 last-group-requires c κs = search needs
 
 returns-2 : tie.Need-returns-2 Inv-loop μ-loop
-returns-2 c = ends-here _ _ _ _ _ _ (c .before .before .before .before .before .before .loop .inv) (c .before .before .before .before .if1 .left) (c .before .before .wide .ensures .0) (c .before .if2 .taken) _ (c .last-group .ensures)
+returns-2 c =
+    ends-here _ _ _ _ _ _ (c .before .before .before .before .before .before .loop .inv) (c .before .before .before .before .if1 .left)
+    (c .before .before .wide .ensures .0) (c .before .if2 .taken) _ (c .last-group .ensures)
 
 mul-value : tie.Need-mul-value Inv-loop μ-loop
 mul-value c = omega (arith, low-bits-fit (c .before .before .before .before .before .loop .scale) (c .before .wide .ensures .1))
@@ -45,7 +47,9 @@ loop-less : tie.Need-loop-less Inv-loop μ-loop
 loop-less c = search needs
 
 loop-again : tie.Need-loop-again Inv-loop μ-loop
-loop-again c = goes-on _ _ _ _ _ _ (c .before .before .before .before .before .loop .inv) (c .before .before .before .if1 .left) (c .before .wide .ensures .0) (c .if2 .left) (c .before .wide .ensures .1)
+loop-again c =
+    goes-on _ _ _ _ _ _ (c .before .before .before .before .before .loop .inv) (c .before .before .before .if1 .left)
+    (c .before .wide .ensures .0) (c .if2 .left) (c .before .wide .ensures .1)
 
 returns-3 : tie.Need-returns-3 Inv-loop μ-loop
 returns-3 c = six-groups _ _ _ _ _ _ (c .before .loop .inv) (c .loop-test .left)
@@ -53,19 +57,4 @@ returns-3 c = six-groups _ _ _ _ _ _ (c .before .loop .inv) (c .loop-test .left)
 pub read-groups-spec : {M : Type 1} → statement M
 read-groups-spec =
     tie.close
-    (tie.spec
-    Inv-loop
-    μ-loop
-    loop-holds
-    returns
-    shared-slice-read-wide
-    wide-requires
-    add-place
-    last-group-requires
-    returns-2
-    mul-value
-    add-value
-    mul-scale
-    loop-less
-    loop-again
-    returns-3)
+    (tie.spec Inv-loop μ-loop loop-holds returns shared-slice-read-wide wide-requires add-place last-group-requires returns-2 mul-value add-value mul-scale loop-less loop-again returns-3)

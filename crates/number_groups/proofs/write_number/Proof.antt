@@ -51,18 +51,4 @@ returns c = (ends-at _ _ _ _ _ _ (c .before .loop .inv) (omega arith), none-left
 pub write-number-spec : {M : Type 1} → statement M
 write-number-spec =
     tie.close
-    (tie.spec
-    Inv-loop
-    μ-loop
-    loop-holds
-    add-buffer
-    cast-buffer
-    slice-write-buffer
-    add-place
-    loop-less
-    loop-again
-    cast-buffer-2
-    slice-write-buffer-2
-    add-result
-    same-length
-    returns)
+    (tie.spec Inv-loop μ-loop loop-holds add-buffer cast-buffer slice-write-buffer add-place loop-less loop-again cast-buffer-2 slice-write-buffer-2 add-result same-length returns)

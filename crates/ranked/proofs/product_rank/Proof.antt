@@ -12,10 +12,10 @@ use Rattle.ranked.proofs.product_rank.Statement.{statement}
 use Rattle.ranked.proofs.product_rank.Tie as tie
 
 abbrev Inv-loop : tie.InvT-loop
-Inv-loop modulus d e row count total₀ i₀ total i = (i ≤ count) × (count ≡ d .0 - e .0 + 1) × Holds modulus (sum i (λ k. at row (2 * (e .0 + k)) * at row (2 * (d .0 - k) + 1))) total
+Inv-loop modulus d e row count total₀ j₀ total j = (j ≤ count) × (count ≡ d .0 - e .0 + 1) × Holds modulus (sum j (λ k. at row (2 * (e .0 + k)) * at row (2 * (d .0 - k) + 1))) total
 
 abbrev μ-loop : tie.MeasureT-loop
-μ-loop modulus d e row count total₀ i₀ total i = count - i
+μ-loop modulus d e row count total₀ j₀ total j = count - j
 
 sub-count : tie.Need-sub-count Inv-loop μ-loop
 sub-count c = search needs
@@ -63,8 +63,8 @@ add-product-requires c κs =
     let v = c .before .before .before .before .before .loop .inv in
     (s .pre .0, (v .2 .sound, record { first = s .pre .1 .0 .below _ (omega arith); second = s .pre .1 .0 .below _ (omega arith) }))
 
-add-i : tie.Need-add-i Inv-loop μ-loop
-add-i c = search needs
+add-j : tie.Need-add-j Inv-loop μ-loop
+add-j c = search needs
 
 loop-less : tie.Need-loop-less Inv-loop μ-loop
 loop-less c = search needs
@@ -73,7 +73,7 @@ loop-again : tie.Need-loop-again Inv-loop μ-loop
 loop-again c =
     let a = c .before .before .before .before .before .before .before .before .before .before .before .args in
     let v = c .before .before .before .before .before .before .loop .inv in
-    let i = c .before .before .before .before .before .before .loop .i in
+    let i = c .before .before .before .before .before .before .loop .j in
     let f : ℕ → ℕ = λ k. at (a .row .now) (2 * (a .e .0 + k)) * at (a .row .now) (2 * (a .d .0 - k) + 1) in
     (omega arith, v .1, subst (λ (s : ℕ). Holds (a .modulus) s (c .add-product .result)) (sym (ap (λ (k : ℕ). sum k f) (add-one i) ∙ sum-last i f)) (holds-added (v .2) (c .add-product .ensures)))
 
@@ -107,7 +107,7 @@ product-rank-spec =
     mul-add-product-2
     shared-slice-read-add-product-2
     add-product-requires
-    add-i
+    add-j
     loop-less
     loop-again
     residue-requires

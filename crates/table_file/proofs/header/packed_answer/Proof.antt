@@ -39,14 +39,4 @@ returns-2 c = packed-refusal _ (c .before .answer2 .given .1)
 pub packed-answer-spec : {M : Type 1} → statement M
 packed-answer-spec =
     tie.close
-    (tie.spec
-    enum-known-answer
-    cast-result
-    mul-result
-    cast-result-2
-    add-result
-    enum-known-answer-2
-    cast-result-3
-    mul-result-2
-    returns
-    returns-2)
+    (tie.spec enum-known-answer cast-result mul-result cast-result-2 add-result enum-known-answer-2 cast-result-3 mul-result-2 returns returns-2)

@@ -23,10 +23,14 @@ enum-known-word-2 : tie.Need-enum-known-word-2
 enum-known-word-2 c = search needs
 
 returns : tie.Need-returns
-returns c = a-modulus _ _ _ (c .before .before .before .before .before .before .read-number .ensures) (c .before .before .before .before .second .given .1) (sym (c .before .before .new .ensures) ∙ c .enum-told .given .1)
+returns c =
+    a-modulus _ _ _ (c .before .before .before .before .before .before .read-number .ensures)
+    (c .before .before .before .before .second .given .1) (sym (c .before .before .new .ensures) ∙ c .enum-told .given .1)
 
 returns-2 : tie.Need-returns-2
-returns-2 c = no-modulus _ _ _ (c .before .before .before .before .before .before .before .read-number .ensures) (c .before .before .before .before .before .second .given .1) (sym (c .before .before .before .new .ensures) ∙ c .before .word .given .1)
+returns-2 c =
+    no-modulus _ _ _ (c .before .before .before .before .before .before .before .read-number .ensures)
+    (c .before .before .before .before .before .second .given .1) (sym (c .before .before .before .new .ensures) ∙ c .before .word .given .1)
 
 returns-3 : tie.Need-returns-3
 returns-3 c = no-number _ _ _ (c .before .before .before .read-number .ensures) (c .before .word2 .given .1)

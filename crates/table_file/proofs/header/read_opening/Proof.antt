@@ -26,10 +26,15 @@ enum-known-word-2 : tie.Need-enum-known-word-2
 enum-known-word-2 c = search needs
 
 returns : tie.Need-returns
-returns c = c .read-modulus .ensures ∙ behind-controls _ _ (c .before .before .before .before .before .before .before .before .read-number .ensures) (c .before .before .before .before .before .before .first .given .1) (c .before .before .before .before .controls-of .ensures) (c .before .before .n .given .1)
+returns c =
+    c .read-modulus .ensures ∙ behind-controls _ _ (c .before .before .before .before .before .before .before .before .read-number .ensures)
+    (c .before .before .before .before .before .before .first .given .1) (c .before .before .before .before .controls-of .ensures)
+    (c .before .before .n .given .1)
 
 returns-2 : tie.Need-returns-2
-returns-2 c = no-controls _ _ (c .before .before .before .before .before .before .before .read-number .ensures) (c .before .before .before .before .before .first .given .1) (c .before .before .before .controls-of .ensures) (c .before .word .given .1)
+returns-2 c =
+    no-controls _ _ (c .before .before .before .before .before .before .before .read-number .ensures)
+    (c .before .before .before .before .before .first .given .1) (c .before .before .before .controls-of .ensures) (c .before .word .given .1)
 
 returns-3 : tie.Need-returns-3
 returns-3 c = no-first _ _ (c .before .before .before .read-number .ensures) (c .before .word2 .given .1)
@@ -37,14 +42,4 @@ returns-3 c = no-first _ _ (c .before .before .before .read-number .ensures) (c 
 pub read-opening-spec : {M : Type 1} → statement M
 read-opening-spec =
     tie.close
-    (tie.spec
-    read-number-requires
-    enum-known-first
-    controls-of-requires
-    enum-known-n
-    read-modulus-requires
-    enum-known-word
-    enum-known-word-2
-    returns
-    returns-2
-    returns-3)
+    (tie.spec read-number-requires enum-known-first controls-of-requires enum-known-n read-modulus-requires enum-known-word enum-known-word-2 returns returns-2 returns-3)

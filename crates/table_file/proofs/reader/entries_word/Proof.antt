@@ -27,7 +27,10 @@ enum-known-word : tie.Need-enum-known-word Inv-loop μ-loop
 enum-known-word c = search needs
 
 returns : tie.Need-returns Inv-loop μ-loop
-returns c = sym (c .before .before .before .before .before .loop .inv ∙ turn-stops _ _ (c .before .before .before .before .before .loop .left) (c .before .before .before .before .loop-test .taken) (sym (c .before .before .before .read-entry .ensures) ∙ ap (outcomeOf _) (c .before .word .given .1)))
+returns c =
+    let loop = c .before .before .before .before .before .loop in
+    sym
+    (loop .inv ∙ turn-stops _ _ (loop .left) (c .before .before .before .before .loop-test .taken) (sym (c .before .before .before .read-entry .ensures) ∙ ap (outcomeOf _) (c .before .word .given .1)))
 
 sub-left : tie.Need-sub-left Inv-loop μ-loop
 sub-left c = search needs
@@ -36,7 +39,10 @@ loop-less : tie.Need-loop-less Inv-loop μ-loop
 loop-less c = search needs
 
 loop-again : tie.Need-loop-again Inv-loop μ-loop
-loop-again c = c .before .before .before .before .before .loop .inv ∙ turn-goes-on _ _ (c .before .before .before .before .before .loop .left) (c .before .before .before .before .loop-test .taken) (sym (c .before .before .before .read-entry .ensures) ∙ ap (outcomeOf _) (c .before .entry .given .1))
+loop-again c =
+    let loop = c .before .before .before .before .before .loop in
+    loop .inv ∙ turn-goes-on _ _ (loop .left) (c .before .before .before .before .loop-test .taken)
+    (sym (c .before .before .before .read-entry .ensures) ∙ ap (outcomeOf _) (c .before .entry .given .1))
 
 returns-2 : tie.Need-returns-2 Inv-loop μ-loop
 returns-2 c = sym (c .before .before .loop .inv ∙ tail _ _ _ _ (c .before .loop-test .left) (c .if1 .taken))
@@ -47,16 +53,4 @@ returns-3 c = sym (c .before .before .loop .inv ∙ no-tail _ _ _ _ (c .before .
 pub entries-word-spec : {M : Type 1} → statement M
 entries-word-spec =
     tie.close
-    (tie.spec
-    Inv-loop
-    μ-loop
-    loop-holds
-    read-entry-requires
-    enum-known-entry
-    enum-known-word
-    returns
-    sub-left
-    loop-less
-    loop-again
-    returns-2
-    returns-3)
+    (tie.spec Inv-loop μ-loop loop-holds read-entry-requires enum-known-entry enum-known-word returns sub-left loop-less loop-again returns-2 returns-3)

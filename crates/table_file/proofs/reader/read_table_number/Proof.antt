@@ -10,7 +10,10 @@ read-table-requires : tie.Need-read-table-requires
 read-table-requires c κs = search needs
 
 packed-answer-requires : tie.Need-packed-answer-requires
-packed-answer-requires c κs = omega (arith, small _ (proper-table (now (c .before .before .before .before .before .before .args .bytes)) (length (now (c .before .before .before .before .before .before .args .table)))), c .before .before .read-table .ensures .0 .number-is)
+packed-answer-requires c κs =
+    let start = c .before .before .before .before .before .before in
+    omega
+    (arith, small _ (proper-table (now (start .args .bytes)) (length (now (start .args .table)))), c .before .before .read-table .ensures .0 .number-is)
 
 same-length : tie.Need-same-length
 same-length c = search needs

@@ -26,27 +26,27 @@ same-length-2 : tie.Need-same-length-2
 same-length-2 c = search needs
 
 returns : tie.Need-returns
-returns c = read-and-written (now (c .before .before .before .before .before .before .before .before .before .before .before .before .before .before .before .args .bytes)) (now (c .before .before .before .before .before .before .before .before .before .before .before .before .before .before .before .args .table)) (now (c .before .before .before .before .before .before .before .before .before .before .before .before .before .before .before .args .buffer)) (at-below 256 (now (c .before .before .before .before .before .before .before .before .before .before .before .before .before .before .before .args .bytes)) (λ i h. omega (arith, c .before .before .before .before .before .before .before .before .before .before .before .before .before .before .shared-slice-known .given i)))
-    (subst (Answered _ _) (c .before .before .before .before .before .before .header .given .1) (c .before .before .before .before .before .before .before .before .before .before .read-table .ensures .0)) (c .before .before .before .before .before .before .before .before .before .before .read-table .ensures .1)
-    (c .before .before .write-table .ensures .0) (c .before .before .write-table .ensures .1 .0) (c .before .before .write-table .ensures .1 .1)
+returns c =
+    let start = c .before .before .before .before .before .before .before .before .before .before .before .before .before .before .before in
+    let read-table = c .before .before .before .before .before .before .before .before .before .before .read-table in
+    let write-table = c .before .before .write-table in
+    read-and-written (now (start .args .bytes)) (now (start .args .table)) (now (start .args .buffer))
+    (at-below 256 (now (start .args .bytes)) (λ i h. omega (arith, c .before .before .before .before .before .before .before .before .before .before .before .before .before .before .shared-slice-known .given i)))
+    (subst (Answered _ _) (c .before .before .before .before .before .before .header .given .1) (read-table .ensures .0))
+    (read-table .ensures .1) (write-table .ensures .0) (write-table .ensures .1 .0) (write-table .ensures .1 .1)
 
 same-length-3 : tie.Need-same-length-3
 same-length-3 c = search needs
 
 returns-2 : tie.Need-returns-2
-returns-2 c = not-read (now (c .before .before .before .before .before .before .before .before .before .before .args .bytes)) (now (c .before .before .before .before .before .before .before .before .before .before .args .table)) (now (c .before .before .before .before .before .before .before .before .before .before .args .buffer)) (at-below 256 (now (c .before .before .before .before .before .before .before .before .before .before .args .bytes)) (λ i h. omega (arith, c .before .before .before .before .before .before .before .before .before .shared-slice-known .given i)))
-    (subst (Answered _ _) (c .before .word .given .1) (c .before .before .before .before .before .read-table .ensures .0)) (c .before .before .before .before .before .read-table .ensures .1)
+returns-2 c =
+    let start = c .before .before .before .before .before .before .before .before .before .before in
+    let read-table = c .before .before .before .before .before .read-table in
+    not-read (now (start .args .bytes)) (now (start .args .table)) (now (start .args .buffer))
+    (at-below 256 (now (start .args .bytes)) (λ i h. omega (arith, c .before .before .before .before .before .before .before .before .before .shared-slice-known .given i)))
+    (subst (Answered _ _) (c .before .word .given .1) (read-table .ensures .0)) (read-table .ensures .1)
 
 pub read-then-write-spec : {M : Type 1} → statement M
 read-then-write-spec =
     tie.close
-    (tie.spec
-    read-table-requires
-    enum-known-header
-    write-table-requires
-    enum-known-word
-    same-length
-    same-length-2
-    returns
-    same-length-3
-    returns-2)
+    (tie.spec read-table-requires enum-known-header write-table-requires enum-known-word same-length same-length-2 returns same-length-3 returns-2)

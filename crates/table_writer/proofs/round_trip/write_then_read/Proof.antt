@@ -11,16 +11,28 @@ same-length : tie.Need-same-length
 same-length c = search needs
 
 returns : tie.Need-returns
-returns c = not-written (c .before .before .before .before .before .before .before .before .before .args .n) (c .before .before .before .before .before .before .before .before .before .args .m) (now (c .before .before .before .before .before .before .before .before .before .args .table)) (now (c .before .before .before .before .before .before .before .before .before .args .buffer)) (now (c .before .before .before .before .before .before .before .before .before .args .back)) (c .before .before .before .before .write-table .ensures .0) (c .before .before .before .before .write-table .ensures .1 .0) (c .before .before .before .before .write-table .ensures .1 .1) (c .if1 .taken)
+returns c =
+    let start = c .before .before .before .before .before .before .before .before .before in
+    let write-table = c .before .before .before .before .write-table in
+    not-written (start .args .n) (start .args .m) (now (start .args .table)) (now (start .args .buffer)) (now (start .args .back))
+    (write-table .ensures .0) (write-table .ensures .1 .0) (write-table .ensures .1 .1) (c .if1 .taken)
 
 cast-count : tie.Need-cast-count
 cast-count c = search needs
 
 slice-reshare-prefix-read-table : tie.Need-slice-reshare-prefix-read-table
-slice-reshare-prefix-read-table c = part-fits (c .before .before .before .before .before .before .before .before .before .before .args .n) (c .before .before .before .before .before .before .before .before .before .before .args .m) (now (c .before .before .before .before .before .before .before .before .before .before .args .table)) (now (c .before .before .before .before .before .before .before .before .before .before .args .buffer)) (now (c .before .before .before .before .before .before .before .before .before .before .args .back)) (c .before .before .before .before .before .write-table .ensures .0) (c .before .before .before .before .before .write-table .ensures .1 .0) (c .before .before .before .before .before .write-table .ensures .1 .1) (c .before .if1 .left)
+slice-reshare-prefix-read-table c =
+    let start = c .before .before .before .before .before .before .before .before .before .before in
+    let write-table = c .before .before .before .before .before .write-table in
+    part-fits (start .args .n) (start .args .m) (now (start .args .table)) (now (start .args .buffer)) (now (start .args .back))
+    (write-table .ensures .0) (write-table .ensures .1 .0) (write-table .ensures .1 .1) (c .before .if1 .left)
 
 slice-aggregate-read-table : tie.Need-slice-aggregate-read-table
-slice-aggregate-read-table c = part-long (c .before .before .before .before .before .before .before .before .before .before .before .args .n) (c .before .before .before .before .before .before .before .before .before .before .before .args .m) (now (c .before .before .before .before .before .before .before .before .before .before .before .args .table)) (now (c .before .before .before .before .before .before .before .before .before .before .before .args .buffer)) (now (c .before .before .before .before .before .before .before .before .before .before .before .args .back)) (c .before .before .before .before .before .before .write-table .ensures .0) (c .before .before .before .before .before .before .write-table .ensures .1 .0) (c .before .before .before .before .before .before .write-table .ensures .1 .1) (c .before .before .if1 .left)
+slice-aggregate-read-table c =
+    let start = c .before .before .before .before .before .before .before .before .before .before .before in
+    let write-table = c .before .before .before .before .before .before .write-table in
+    part-long (start .args .n) (start .args .m) (now (start .args .table)) (now (start .args .buffer)) (now (start .args .back))
+    (write-table .ensures .0) (write-table .ensures .1 .0) (write-table .ensures .1 .1) (c .before .before .if1 .left)
 
 read-table-requires : tie.Need-read-table-requires
 read-table-requires c κs = search needs
@@ -32,19 +44,15 @@ same-length-3 : tie.Need-same-length-3
 same-length-3 c = search needs
 
 returns-2 : tie.Need-returns-2
-returns-2 c = read-back (c .before .before .before .before .before .before .before .before .before .before .before .before .before .before .before .args .n) (c .before .before .before .before .before .before .before .before .before .before .before .before .before .before .before .args .m) (now (c .before .before .before .before .before .before .before .before .before .before .before .before .before .before .before .args .table)) (now (c .before .before .before .before .before .before .before .before .before .before .before .before .before .before .before .args .buffer)) (now (c .before .before .before .before .before .before .before .before .before .before .before .before .before .before .before .args .back)) (c .before .before .before .before .before .before .before .before .before .before .write-table .ensures .0) (c .before .before .before .before .before .before .before .before .before .before .write-table .ensures .1 .0) (c .before .before .before .before .before .before .before .before .before .before .write-table .ensures .1 .1) (c .before .before .before .before .before .before .if1 .left) (c .before .before .read-table .ensures .0) (c .before .before .read-table .ensures .1)
+returns-2 c =
+    let start = c .before .before .before .before .before .before .before .before .before .before .before .before .before .before .before in
+    let write-table = c .before .before .before .before .before .before .before .before .before .before .write-table in
+    let read-table = c .before .before .read-table in
+    read-back (start .args .n) (start .args .m) (now (start .args .table)) (now (start .args .buffer)) (now (start .args .back))
+    (write-table .ensures .0) (write-table .ensures .1 .0) (write-table .ensures .1 .1)
+    (c .before .before .before .before .before .before .if1 .left) (read-table .ensures .0) (read-table .ensures .1)
 
 pub write-then-read-spec : {M : Type 1} → statement M
 write-then-read-spec =
     tie.close
-    (tie.spec
-    write-table-requires
-    same-length
-    returns
-    cast-count
-    slice-reshare-prefix-read-table
-    slice-aggregate-read-table
-    read-table-requires
-    same-length-2
-    same-length-3
-    returns-2)
+    (tie.spec write-table-requires same-length returns cast-count slice-reshare-prefix-read-table slice-aggregate-read-table read-table-requires same-length-2 same-length-3 returns-2)

@@ -34,7 +34,9 @@ number-length-requires-3 : tie.Need-number-length-requires-3 Inv-loop μ-loop
 number-length-requires-3 c κs = search needs
 
 add-count-2 : tie.Need-add-count-2 Inv-loop μ-loop
-add-count-2 c = omega (arith, c .before .before .before .loop .inv .few, c .number-length3 .ensures .1, c .before .before .before .before .before .before .before .pre)
+add-count-2 c =
+    omega
+    (arith, c .before .before .before .loop .inv .few, c .number-length3 .ensures .1, c .before .before .before .before .before .before .before .pre)
 
 add-i : tie.Need-add-i Inv-loop μ-loop
 add-i c = search needs
@@ -51,18 +53,4 @@ returns c = all-counted _ _ _ _ _ (c .before .loop .inv) (c .loop-test .left)
 pub file-length-spec : {M : Type 1} → statement M
 file-length-spec =
     tie.close
-    (tie.spec
-    Inv-loop
-    μ-loop
-    number-length-requires
-    number-length-requires-2
-    add-count
-    loop-holds
-    mul-number-length
-    shared-slice-read-number-length
-    number-length-requires-3
-    add-count-2
-    add-i
-    loop-less
-    loop-again
-    returns)
+    (tie.spec Inv-loop μ-loop number-length-requires number-length-requires-2 add-count loop-holds mul-number-length shared-slice-read-number-length number-length-requires-3 add-count-2 add-i loop-less loop-again returns)

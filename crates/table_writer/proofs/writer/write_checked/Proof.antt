@@ -11,7 +11,10 @@ cast-if1 : tie.Need-cast-if1
 cast-if1 c = search needs
 
 returns : tie.Need-returns
-returns c = too-short (c .before .before .before .before .args .n) (c .before .before .before .before .args .m) (now (c .before .before .before .before .args .table)) (now (c .before .before .before .before .args .buffer)) (c .before .file-length .ensures) (c .if1 .taken)
+returns c =
+    let start = c .before .before .before .before in
+    too-short (start .args .n) (start .args .m) (now (start .args .table)) (now (start .args .buffer)) (c .before .file-length .ensures)
+    (c .if1 .taken)
 
 write-file-requires : tie.Need-write-file-requires
 write-file-requires c κs = search needs
@@ -20,7 +23,11 @@ same-length : tie.Need-same-length
 same-length c = search needs
 
 returns-2 : tie.Need-returns-2
-returns-2 c = long-enough (c .before .before .before .before .before .before .before .before .args .n) (c .before .before .before .before .before .before .before .before .args .m) (now (c .before .before .before .before .before .before .before .before .args .table)) (now (c .before .before .before .before .before .before .before .before .args .buffer)) (c .before .before .before .before .before .file-length .ensures) (c .before .before .before .before .if1 .left) (c .before .before .write-file .ensures)
+returns-2 c =
+    let start = c .before .before .before .before .before .before .before .before in
+    long-enough (start .args .n) (start .args .m) (now (start .args .table)) (now (start .args .buffer))
+    (c .before .before .before .before .before .file-length .ensures) (c .before .before .before .before .if1 .left)
+    (c .before .before .write-file .ensures)
 
 pub write-checked-spec : {M : Type 1} → statement M
 write-checked-spec =

@@ -31,7 +31,10 @@ loop-less : tie.Need-loop-less Inv-loop μ-loop
 loop-less c = search needs
 
 loop-again : tie.Need-loop-again Inv-loop μ-loop
-loop-again c = entry-written _ _ _ _ _ _ (c .before .before .before .before .before .before .loop .inv) (c .before .before .before .before .before .loop-test .taken) (c .before .before .write-number .ensures .0) (c .before .before .write-number .ensures .1)
+loop-again c =
+    let write-number = c .before .before .write-number in
+    entry-written _ _ _ _ _ _ (c .before .before .before .before .before .before .loop .inv)
+    (c .before .before .before .before .before .loop-test .taken) (write-number .ensures .0) (write-number .ensures .1)
 
 same-length : tie.Need-same-length Inv-loop μ-loop
 same-length c = c .before .loop .inv .as-long
@@ -42,15 +45,4 @@ returns c = entries-written _ _ _ _ _ _ (c .before .loop .inv) (c .loop-test .le
 pub write-entries-spec : {M : Type 1} → statement M
 write-entries-spec =
     tie.close
-    (tie.spec
-    Inv-loop
-    μ-loop
-    loop-holds
-    mul-write-number
-    shared-slice-read-write-number
-    write-number-requires
-    add-i
-    loop-less
-    loop-again
-    same-length
-    returns)
+    (tie.spec Inv-loop μ-loop loop-holds mul-write-number shared-slice-read-write-number write-number-requires add-i loop-less loop-again same-length returns)

@@ -11,7 +11,10 @@ enum-told : tie.Need-enum-told
 enum-told c = search needs
 
 write-checked-requires : tie.Need-write-checked-requires
-write-checked-requires c κs = few-entries (c .before .before .before .before .before .before .args .n) (c .before .before .before .before .before .before .args .m) (now (c .before .before .before .before .before .before .args .table)) (now (c .before .before .before .before .before .before .args .buffer)) (c .before .before .before .check-table .ensures) (c .before .enum-told .given .1)
+write-checked-requires c κs =
+    let start = c .before .before .before .before .before .before in
+    few-entries (start .args .n) (start .args .m) (now (start .args .table)) (now (start .args .buffer))
+    (c .before .before .before .check-table .ensures) (c .before .enum-told .given .1)
 
 enum-known-word : tie.Need-enum-known-word
 enum-known-word c = search needs
@@ -20,10 +23,21 @@ same-length : tie.Need-same-length
 same-length c = search needs
 
 returns : tie.Need-returns
-returns c = let w = as-written (c .before .before .before .before .before .before .before .before .before .args .n) (c .before .before .before .before .before .before .before .before .before .args .m) (now (c .before .before .before .before .before .before .before .before .before .args .table)) (now (c .before .before .before .before .before .before .before .before .before .args .buffer)) (c .before .before .before .before .before .before .check-table .ensures) (c .before .before .before .before .enum-told .given .1) (c .before .before .write-checked .ensures) in (w .number-is, (w .count-is, w .buffer-is))
+returns c =
+    let start = c .before .before .before .before .before .before .before .before .before in
+    let w =
+    as-written (start .args .n) (start .args .m) (now (start .args .table)) (now (start .args .buffer))
+    (c .before .before .before .before .before .before .check-table .ensures) (c .before .before .before .before .enum-told .given .1)
+    (c .before .before .write-checked .ensures) in
+    (w .number-is, (w .count-is, w .buffer-is))
 
 returns-2 : tie.Need-returns-2
-returns-2 c = let w = as-refused (c .before .before .before .before .before .before .args .n) (c .before .before .before .before .before .before .args .m) (now (c .before .before .before .before .before .before .args .table)) (now (c .before .before .before .before .before .before .args .buffer)) (c .before .before .before .check-table .ensures) (c .before .word .given .1) in (w .number-is, (w .count-is, w .buffer-is))
+returns-2 c =
+    let start = c .before .before .before .before .before .before in
+    let w =
+    as-refused (start .args .n) (start .args .m) (now (start .args .table)) (now (start .args .buffer))
+    (c .before .before .before .check-table .ensures) (c .before .word .given .1) in
+    (w .number-is, (w .count-is, w .buffer-is))
 
 pub write-table-spec : {M : Type 1} → statement M
 write-table-spec =

@@ -2,8 +2,8 @@ use native.Mathlib.Omega.{arith}
 use Rattle.ranked_theory.specs.Rows.{plus}
 use Rattle.ranked_theory.specs.Runs.{first-lower, first-upper, run-four, stores-within}
 use borrow.Author.Needs.{needs}
-use Rattle.ranked.proofs.add_four.Statement.{statement}
-use Rattle.ranked.proofs.add_four.Tie as tie
+use Rattle.ranked_runs.proofs.add_four.Statement.{statement}
+use Rattle.ranked_runs.proofs.add_four.Tie as tie
 
 add-lo1 : tie.Need-add-lo1
 add-lo1 c = search needs

@@ -5,8 +5,8 @@ use Rattle.definitions.specs.Sums.{at}
 use Rattle.ranked_theory.specs.Rows.{stored}
 use Rattle.ranked_theory.specs.Runs.{run-two}
 use borrow.Author.Needs.{needs}
-use Rattle.ranked.proofs.store_pair.Statement.{statement}
-use Rattle.ranked.proofs.store_pair.Tie as tie
+use Rattle.ranked_runs.proofs.store_pair.Statement.{statement}
+use Rattle.ranked_runs.proofs.store_pair.Tie as tie
 
 mul-left : tie.Need-mul-left
 mul-left c = search needs

@@ -3,8 +3,8 @@ use Rattle.ranked_theory.specs.Rows.{plus}
 use lib.ListN.{length-set}
 use Rattle.ranked_theory.specs.Runs.{first-lower, first-upper, run-two}
 use borrow.Author.Needs.{needs}
-use Rattle.ranked.proofs.add_two.Statement.{statement}
-use Rattle.ranked.proofs.add_two.Tie as tie
+use Rattle.ranked_runs.proofs.add_two.Statement.{statement}
+use Rattle.ranked_runs.proofs.add_two.Tie as tie
 
 add-lo1 : tie.Need-add-lo1
 add-lo1 c = search needs

@@ -4,8 +4,8 @@ use Prim.Native.Nat.{_+_}
 use mathlib.Core.Path.{_≡_, sym, refl}
 use Rattle.ranked_theory.specs.Runs.{first-lower, first-upper, run-none, run-one, run-join, run-counted, later-ready, fewer-ready}
 use borrow.Author.Needs.{needs}
-use Rattle.ranked.proofs.subtract_rest.Statement.{statement}
-use Rattle.ranked.proofs.subtract_rest.Tie as tie
+use Rattle.ranked_runs.proofs.subtract_rest.Statement.{statement}
+use Rattle.ranked_runs.proofs.subtract_rest.Tie as tie
 
 returns : tie.Need-returns
 returns c =
