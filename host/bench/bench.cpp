@@ -1,5 +1,5 @@
 // Measures each call of the library next to a plain implementation, in interleaved rounds of one run, and prints ratios.
-// Times are processor time; every buffer was written before it is measured. HAS_sps_... is defined for each function that the library has.
+// Times are processor time; every buffer was written before it is measured.
 #include <algorithm>
 #include <cstdio>
 #include <cstdlib>
@@ -7,6 +7,7 @@
 #include <functional>
 #include <map>
 #include <string>
+#include <type_traits>
 #include <vector>
 
 #include "plain.h"
@@ -28,7 +29,7 @@ struct Data {
     Table a = random(1, entries), b = random(2, entries), first_zero = a, first_one = a;
     Table f = random(3, n + 1), g = random(4, n + 1);
     Table result = Table(entries, 1), row = Table(n + 1, 1), pad = Table(SPS_PAD_LENGTH(n), 1);
-    Table plain_result = result, plain_row = row, work = Table(2 * (n + 1) * entries, 1);
+    Table plain_result = result, plain_row = row, work = pad;
     std::vector<u8> file = std::vector<u8>(6 + 5 * entries, 1), buffer = file, plain_buffer = file;
     std::size_t file_length;
 
@@ -48,80 +49,86 @@ struct Data {
     }
 };
 
-// A call of the library and the plain form of it, of the same inputs; `odd_only` where even moduli are refused.
+// A call of the library and a plain form, its yardstick, of the same inputs; `odd_only` where even moduli are refused.
 struct Bench {
-    std::string name;
+    std::string call, yardstick;
     std::function<u64(Data &)> library;
     std::function<u64(Data &)> plain;
     bool odd_only = false;
 };
 
+// The plain form of a product together with what the contract asks besides it: entries are tested, the pad is left 0.
+template <typename Product>
+auto with_duties(Product product) {
+    return [product](Data &d) -> u64 {
+        if (!plain::all_below(d.n, d.m, d.a.data()) || !plain::all_below(d.n, d.m, d.b.data())) return SPS_ENTRY;
+        product(d);
+        std::fill(d.work.begin(), d.work.end(), 0);
+        return 0;
+    };
+}
+
 #define TABLE(x) d.x.data(), d.x.size()
 #define RESULT TABLE(result)
 #define PAD TABLE(pad)
+#define PLAIN_PRODUCT(product) \
+    [](Data &d) { plain::product(d.n, d.m, d.a.data(), d.b.data(), d.plain_result.data(), d.work.data()); }
 
+// The subset product to its scalar form comes first: other calls are given in it.
 std::vector<Bench> benches() {
     std::vector<Bench> all;
-    auto add = [&](const char *name, auto library, auto plain, bool odd_only = false) {
-        auto returning_0 = [plain](Data &d) { return plain(d), u64{0}; };
-        all.push_back({name, library, returning_0, odd_only});
+    // A plain form that returns nothing stands for one that answers 0.
+    auto add = [&](const char *call, const char *yardstick, auto library, auto plain, bool odd_only = false) {
+        auto answering = [plain](Data &d) -> u64 {
+            if constexpr (std::is_void_v<decltype(plain(d))>) {
+                return plain(d), 0;
+            } else {
+                return plain(d);
+            }
+        };
+        all.push_back({call, yardstick, library, answering, odd_only});
     };
-    (void)add;
-#ifdef HAS_sps_subset_product
-    auto subset = [](Data &d) { return sps_subset_product(d.n, d.m, TABLE(a), TABLE(b), RESULT, PAD) & 0xffffffff; };
-    add("subset product", subset,
-        [](Data &d) { plain::subset_product(d.n, d.m, d.a.data(), d.b.data(), d.plain_result.data(), d.work.data()); });
-    add("  to textbook", subset,
-        [](Data &d) { plain::textbook_subset_product(d.n, d.m, d.a.data(), d.b.data(), d.plain_result.data(), d.work.data()); });
-#endif
-#ifdef HAS_sps_exponential
-    add("exponential", [](Data &d) { return sps_exponential(d.n, d.m, TABLE(first_zero), RESULT, PAD); },
+
+    auto subset = [](Data &d) { return sps_subset_product(d.n, d.m, TABLE(a), TABLE(b), RESULT, PAD); };
+    auto subset_number = [subset](Data &d) { return subset(d) & 0xffffffff; };
+    auto plain_subset = PLAIN_PRODUCT(subset_product);
+    add("subset product", "scalar", subset_number, plain_subset);
+    add("subset product", "scalar + duties", subset, [plain_subset](Data &d) {
+        u64 ceiling = plain::ceiling(d.n, d.a.data()) + plain::ceiling(d.n, d.b.data());
+        return std::min<u64>(d.n, ceiling) << 32 | with_duties(plain_subset)(d);
+    });
+    add("subset product", "textbook", subset_number, PLAIN_PRODUCT(textbook_subset_product));
+
+    add("exponential", "plain", [](Data &d) { return sps_exponential(d.n, d.m, TABLE(first_zero), RESULT, PAD); },
         [](Data &d) { plain::exponential(d.n, d.m, d.first_zero.data(), d.plain_result.data(), d.work.data()); });
-#endif
-#ifdef HAS_sps_composition
-    add("composition", [](Data &d) { return sps_composition(d.n, d.m, TABLE(first_zero), TABLE(f), RESULT, PAD); },
+    add("composition", "plain", [](Data &d) { return sps_composition(d.n, d.m, TABLE(first_zero), TABLE(f), RESULT, PAD); },
         [](Data &d) { plain::composition(d.n, d.m, d.first_zero.data(), d.f.data(), d.plain_result.data(), d.work.data()); });
-#endif
-#ifdef HAS_sps_logarithm
-    add("logarithm", [](Data &d) { return sps_logarithm(d.n, d.m, TABLE(first_one), RESULT, PAD); },
+    add("logarithm", "plain", [](Data &d) { return sps_logarithm(d.n, d.m, TABLE(first_one), RESULT, PAD); },
         [](Data &d) { plain::logarithm(d.n, d.m, d.first_one.data(), d.plain_result.data(), d.work.data()); });
-#endif
-#ifdef HAS_sps_inverse
-    add("inverse", [](Data &d) { return sps_inverse(d.n, d.m, TABLE(first_one), RESULT, PAD); },
+    add("inverse", "plain", [](Data &d) { return sps_inverse(d.n, d.m, TABLE(first_one), RESULT, PAD); },
         [](Data &d) { plain::inverse(d.n, d.m, d.first_one.data(), d.plain_result.data(), d.work.data()); });
-#endif
-#ifdef HAS_sps_union_product
-    add("union product", [](Data &d) { return sps_union_product(d.n, d.m, TABLE(a), TABLE(b), RESULT, PAD); },
-        [](Data &d) { plain::union_product(d.n, d.m, d.a.data(), d.b.data(), d.plain_result.data(), d.work.data()); });
-#endif
-#ifdef HAS_sps_xor_product
-    add("xor product", [](Data &d) { return sps_xor_product(d.n, d.m, TABLE(a), TABLE(b), RESULT, PAD); },
-        [](Data &d) { plain::xor_product(d.n, d.m, d.a.data(), d.b.data(), d.plain_result.data(), d.work.data()); }, true);
-#endif
-#ifdef HAS_sps_sum
-    add("sum", [](Data &d) { return sps_sum(d.n, d.m, TABLE(a), TABLE(b), RESULT); },
+
+    auto union_ = [](Data &d) { return sps_union_product(d.n, d.m, TABLE(a), TABLE(b), RESULT, PAD); };
+    auto plain_union = PLAIN_PRODUCT(union_product);
+    add("union product", "plain", union_, plain_union);
+    add("union product", "plain + duties", union_, with_duties(plain_union));
+    auto xor_ = [](Data &d) { return sps_xor_product(d.n, d.m, TABLE(a), TABLE(b), RESULT, PAD); };
+    auto plain_xor = PLAIN_PRODUCT(xor_product);
+    add("xor product", "plain", xor_, plain_xor, true);
+    add("xor product", "plain + duties", xor_, with_duties(plain_xor), true);
+
+    add("sum", "plain", [](Data &d) { return sps_sum(d.n, d.m, TABLE(a), TABLE(b), RESULT); },
         [](Data &d) { plain::sum(d.n, d.m, d.a.data(), d.b.data(), d.plain_result.data()); });
-#endif
-#ifdef HAS_sps_difference
-    add("difference", [](Data &d) { return sps_difference(d.n, d.m, TABLE(a), TABLE(b), RESULT); },
+    add("difference", "plain", [](Data &d) { return sps_difference(d.n, d.m, TABLE(a), TABLE(b), RESULT); },
         [](Data &d) { plain::difference(d.n, d.m, d.a.data(), d.b.data(), d.plain_result.data()); });
-#endif
-#ifdef HAS_sps_binomial_product
-    add("binomial product", [](Data &d) { return sps_binomial_product(d.n, d.m, TABLE(f), TABLE(g), TABLE(row)); },
+    add("binomial product", "plain", [](Data &d) { return sps_binomial_product(d.n, d.m, TABLE(f), TABLE(g), TABLE(row)); },
         [](Data &d) { plain::binomial_product(d.n, d.m, d.f.data(), d.g.data(), d.plain_row.data()); });
-#endif
-#ifdef HAS_sps_header_check
-    all.push_back({"header check", [](Data &d) { return sps_header_check(d.file.data(), d.file_length); },
-                   [](Data &d) { return plain::header_check(d.file.data(), d.file_length); }});
-#endif
-#ifdef HAS_sps_read_table
-    all.push_back({"reader", [](Data &d) { return sps_read_table(d.file.data(), d.file_length, RESULT); },
-                   [](Data &d) { return plain::read_table(d.file.data(), d.file_length, d.plain_result.data()); }});
-#endif
-#ifdef HAS_sps_write_table
-    all.push_back({"writer", [](Data &d) { return sps_write_table(d.n, d.m, TABLE(a), TABLE(buffer)); },
-                   [](Data &d) { return plain::write_table(d.n, d.m, d.a.data(), d.plain_buffer.data()); }});
-#endif
+    add("header check", "plain", [](Data &d) { return sps_header_check(d.file.data(), d.file_length); },
+        [](Data &d) { return plain::header_check(d.file.data(), d.file_length); });
+    add("reader", "plain", [](Data &d) { return sps_read_table(d.file.data(), d.file_length, RESULT); },
+        [](Data &d) { return plain::read_table(d.file.data(), d.file_length, d.plain_result.data()); });
+    add("writer", "plain", [](Data &d) { return sps_write_table(d.n, d.m, TABLE(a), TABLE(buffer)); },
+        [](Data &d) { return plain::write_table(d.n, d.m, d.a.data(), d.plain_buffer.data()); });
     return all;
 }
 
@@ -129,7 +136,7 @@ std::vector<Bench> benches() {
 void compare(const Bench &bench, Data &d) {
     u64 library = bench.library(d), plain = bench.plain(d);
     if (library != plain || d.result != d.plain_result || d.row != d.plain_row || d.buffer != d.plain_buffer) {
-        std::fprintf(stderr, "%s with n = %u, m = %u: the two differ\n", bench.name.c_str(), d.n, d.m);
+        std::fprintf(stderr, "%s with n = %u, m = %u: the two differ\n", bench.call.c_str(), d.n, d.m);
         std::exit(EXIT_FAILURE);
     }
 }
@@ -174,34 +181,28 @@ Times measure(const Bench &bench, Data &d) {
 
 int main() {
     std::vector<Bench> all = benches();
-    std::map<std::pair<std::string, u32>, std::map<u32, Times>> measured;
+    std::vector<std::map<u32, std::map<u32, Times>>> measured(all.size());  // by modulus, then panel
     for (u32 m : MODULI) {
         for (u32 n : PANELS) {
             Data d(n, m);
-            for (const Bench &bench : all) {
-                if (m % 2 == 0 && bench.odd_only) continue;
-                measured[{bench.name, m}][n] = measure(bench, d);
+            for (std::size_t i = 0; i < all.size(); i++) {
+                if (m % 2 == 1 || !all[i].odd_only) measured[i][m][n] = measure(all[i], d);
             }
         }
     }
 
-    std::printf("Medians of %d interleaved rounds. Plain: the scalar subset product, and plain forms over it.\n\n", ROUNDS);
-    std::printf("%-17s %-10s   library / plain at n =       library's growth   n = 16 in subset\n", "", "");
-    std::printf("%-17s %-10s %6u %6u %6u %6u     12 to 14  14 to 16   products        ms\n", "call", "modulus", 8, 12, 14, 16);
-    for (const Bench &bench : all) {
-        for (u32 m : MODULI) {
-            auto found = measured.find({bench.name, m});
-            if (found == measured.end()) continue;
-            auto &times = found->second;
-            std::printf("%-17s %-10u", bench.name.c_str(), m);
+    std::printf("Medians of %d interleaved rounds. Plain forms refuse nothing and clear no pad; from exponential to\n"
+                "inverse they work by the scalar subset product. Duties: what the contract asks of a call besides its\n"
+                "product, that is testing every entry, the ceiling (subset product) and clearing the pad.\n\n", ROUNDS);
+    std::printf("%-44s library / yardstick at n =     library's growth   n = 16 in subset\n", "");
+    std::printf("%-17s %-16s %-10s %6u %6u %6u %6u     12 to 14  14 to 16   products        ms\n",
+                "call", "yardstick", "modulus", 8, 12, 14, 16);
+    for (std::size_t i = 0; i < all.size(); i++) {
+        for (auto &[m, times] : measured[i]) {
+            std::printf("%-17s %-16s %-10u", all[i].call.c_str(), all[i].yardstick.c_str(), m);
             for (u32 n : PANELS) std::printf(" %6.2f", times[n].library / times[n].plain);
             std::printf("     %8.2f  %8.2f", times[14].library / times[12].library, times[16].library / times[14].library);
-            auto subset = measured.find({"subset product", m});
-            if (subset == measured.end()) {
-                std::printf("   %8s", "-");
-            } else {
-                std::printf("   %8.3f", times[16].library / subset->second[16].library);
-            }
+            std::printf("   %8.3f", times[16].library / measured[0][m][16].library);
             std::printf("  %8.3f\n", times[16].library * 1000);
         }
     }

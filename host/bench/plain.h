@@ -20,6 +20,10 @@ namespace plain {
 
 // Work: 2 (n + 1) 2^n numbers, where it is asked for; no call clears it.
 
+// Duties of a call that are no part of its result: whether all entries of a table are below m, and a table's ceiling.
+bool all_below(u32 n, u32 m, const u32 *table);
+u32 ceiling(u32 n, const u32 *table);
+
 // The ranked recursion of source document 001, with its ranges: tuned, without branches in the inner loops ("scalar").
 void subset_product(u32 n, u32 m, const u32 *a, const u32 *b, u32 *result, u32 *work);
 // Zeta transform of each rank over the whole table, one remainder for each product ("textbook").

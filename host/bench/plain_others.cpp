@@ -1,7 +1,13 @@
-// Entrywise calls, union and xor product, binomial product and table files as plain loops.
+// Test of entries, entrywise calls, union and xor product, binomial product and table files as plain loops.
 #include "plain.h"
 
 #include <algorithm>
+
+bool plain::all_below(u32 n, u32 m, const u32 *table) {
+    bool below = true;
+    for (std::size_t i = 0; i < std::size_t{1} << n; i++) below &= table[i] < m;
+    return below;
+}
 
 void plain::sum(u32 n, u32 m, const u32 *a, const u32 *b, u32 *result) {
     for (std::size_t i = 0; i < std::size_t{1} << n; i++) result[i] = add_mod(a[i], b[i], m);

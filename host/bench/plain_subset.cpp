@@ -1,4 +1,4 @@
-// The subset product in two plain forms.
+// The subset product in two plain forms, and a table's ceiling.
 #include "plain.h"
 
 #include <algorithm>
@@ -66,6 +66,14 @@ struct Ranked {
 };
 
 }  // namespace
+
+u32 plain::ceiling(u32 n, const u32 *table) {
+    u8 largest = 0;
+    for (std::size_t set = 0; set < std::size_t{1} << n; set++) {
+        largest = std::max(largest, table[set] ? sizes.of[set] : u8{0});
+    }
+    return largest;
+}
 
 void plain::subset_product(u32 n, u32 m, const u32 *a, const u32 *b, u32 *result, u32 *work) {
     const std::size_t entries = std::size_t{1} << n, w = n + 1;

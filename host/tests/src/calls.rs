@@ -198,15 +198,14 @@ pub fn assert_same(found: &[u32], expected: &[u32], about: impl Fn() -> String) 
     }
 }
 
-/// A test for each call, ignored where the library does not have it.
+/// The ten calls, with the name that a test of each has.
 macro_rules! for_each_call {
-    ($($name:ident $present:ident $call:ident;)*) => {
+    ($($name:ident $call:ident;)*) => {
         /// Makes a test of `$check`, a function of the call, for each of the ten calls.
         macro_rules! each_call {
             ($check:path) => {
                 $(
                     #[test]
-                    #[cfg_attr(not($present), ignore = "absent")]
                     fn $name() {
                         $check($crate::calls::Call::$call)
                     }
@@ -217,14 +216,14 @@ macro_rules! for_each_call {
     };
 }
 for_each_call! {
-    sum has_sps_sum Sum;
-    difference has_sps_difference Difference;
-    subset_product has_sps_subset_product SubsetProduct;
-    union_product has_sps_union_product UnionProduct;
-    xor_product has_sps_xor_product XorProduct;
-    binomial_product has_sps_binomial_product BinomialProduct;
-    exponential has_sps_exponential Exponential;
-    logarithm has_sps_logarithm Logarithm;
-    inverse has_sps_inverse Inverse;
-    composition has_sps_composition Composition;
+    sum Sum;
+    difference Difference;
+    subset_product SubsetProduct;
+    union_product UnionProduct;
+    xor_product XorProduct;
+    binomial_product BinomialProduct;
+    exponential Exponential;
+    logarithm Logarithm;
+    inverse Inverse;
+    composition Composition;
 }

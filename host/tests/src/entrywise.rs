@@ -31,21 +31,18 @@ fn one_slice_twice(call: Call) {
 }
 
 #[test]
-#[cfg_attr(not(has_sps_sum), ignore = "absent")]
 fn sum() {
     every_panel(Call::Sum);
     one_slice_twice(Call::Sum);
 }
 
 #[test]
-#[cfg_attr(not(has_sps_difference), ignore = "absent")]
 fn difference() {
     every_panel(Call::Difference);
     one_slice_twice(Call::Difference);
 }
 
 #[test]
-#[cfg_attr(not(has_sps_binomial_product), ignore = "absent")]
 fn binomial_product() {
     every_panel(Call::BinomialProduct);
     one_slice_twice(Call::BinomialProduct);

@@ -1,48 +1,33 @@
 //! Safe wrappers over the functions of the C interface.
 
-/// Declares each function where the library has it; where it has not, a call of it panics. (Its tests are ignored then.)
-macro_rules! interface {
-    ($($present:ident $name:ident($($parameter:ident: $kind:ty),*) -> $answer:ty;)*) => {
-        mod raw {
-            $(
-                #[cfg($present)]
-                extern "C" {
-                    pub fn $name($($parameter: $kind),*) -> $answer;
-                }
-                #[cfg(not($present))]
-                pub unsafe fn $name($(_: $kind),*) -> $answer {
-                    panic!(concat!(stringify!($name), " is absent"))
-                }
-            )*
-        }
-    };
-}
-
-interface! {
-    has_sps_sum sps_sum(n: u32, m: u32, a: *const u32, a_len: usize, b: *const u32, b_len: usize,
-        result: *mut u32, result_len: usize) -> u32;
-    has_sps_difference sps_difference(n: u32, m: u32, a: *const u32, a_len: usize, b: *const u32, b_len: usize,
-        result: *mut u32, result_len: usize) -> u32;
-    has_sps_subset_product sps_subset_product(n: u32, m: u32, a: *const u32, a_len: usize, b: *const u32, b_len: usize,
-        result: *mut u32, result_len: usize, pad: *mut u32, pad_len: usize) -> u64;
-    has_sps_union_product sps_union_product(n: u32, m: u32, a: *const u32, a_len: usize, b: *const u32, b_len: usize,
-        result: *mut u32, result_len: usize, pad: *mut u32, pad_len: usize) -> u32;
-    has_sps_xor_product sps_xor_product(n: u32, m: u32, a: *const u32, a_len: usize, b: *const u32, b_len: usize,
-        result: *mut u32, result_len: usize, pad: *mut u32, pad_len: usize) -> u32;
-    has_sps_binomial_product sps_binomial_product(n: u32, m: u32, f: *const u32, f_len: usize, g: *const u32, g_len: usize,
-        result: *mut u32, result_len: usize) -> u32;
-    has_sps_exponential sps_exponential(n: u32, m: u32, a: *const u32, a_len: usize,
-        result: *mut u32, result_len: usize, pad: *mut u32, pad_len: usize) -> u32;
-    has_sps_logarithm sps_logarithm(n: u32, m: u32, a: *const u32, a_len: usize,
-        result: *mut u32, result_len: usize, pad: *mut u32, pad_len: usize) -> u32;
-    has_sps_inverse sps_inverse(n: u32, m: u32, a: *const u32, a_len: usize,
-        result: *mut u32, result_len: usize, pad: *mut u32, pad_len: usize) -> u32;
-    has_sps_composition sps_composition(n: u32, m: u32, a: *const u32, a_len: usize, f: *const u32, f_len: usize,
-        result: *mut u32, result_len: usize, pad: *mut u32, pad_len: usize) -> u32;
-    has_sps_header_check sps_header_check(bytes: *const u8, len: usize) -> u64;
-    has_sps_read_table sps_read_table(bytes: *const u8, len: usize, table: *mut u32, table_len: usize) -> u64;
-    has_sps_write_table sps_write_table(n: u32, m: u32, table: *const u32, table_len: usize,
-        buffer: *mut u8, buffer_len: usize) -> u64;
+#[rustfmt::skip] // one or two lines to a function
+mod raw {
+    extern "C" {
+        pub fn sps_sum(n: u32, m: u32, a: *const u32, a_len: usize, b: *const u32, b_len: usize,
+            result: *mut u32, result_len: usize) -> u32;
+        pub fn sps_difference(n: u32, m: u32, a: *const u32, a_len: usize, b: *const u32, b_len: usize,
+            result: *mut u32, result_len: usize) -> u32;
+        pub fn sps_subset_product(n: u32, m: u32, a: *const u32, a_len: usize, b: *const u32, b_len: usize,
+            result: *mut u32, result_len: usize, pad: *mut u32, pad_len: usize) -> u64;
+        pub fn sps_union_product(n: u32, m: u32, a: *const u32, a_len: usize, b: *const u32, b_len: usize,
+            result: *mut u32, result_len: usize, pad: *mut u32, pad_len: usize) -> u32;
+        pub fn sps_xor_product(n: u32, m: u32, a: *const u32, a_len: usize, b: *const u32, b_len: usize,
+            result: *mut u32, result_len: usize, pad: *mut u32, pad_len: usize) -> u32;
+        pub fn sps_binomial_product(n: u32, m: u32, f: *const u32, f_len: usize, g: *const u32, g_len: usize,
+            result: *mut u32, result_len: usize) -> u32;
+        pub fn sps_exponential(n: u32, m: u32, a: *const u32, a_len: usize,
+            result: *mut u32, result_len: usize, pad: *mut u32, pad_len: usize) -> u32;
+        pub fn sps_logarithm(n: u32, m: u32, a: *const u32, a_len: usize,
+            result: *mut u32, result_len: usize, pad: *mut u32, pad_len: usize) -> u32;
+        pub fn sps_inverse(n: u32, m: u32, a: *const u32, a_len: usize,
+            result: *mut u32, result_len: usize, pad: *mut u32, pad_len: usize) -> u32;
+        pub fn sps_composition(n: u32, m: u32, a: *const u32, a_len: usize, f: *const u32, f_len: usize,
+            result: *mut u32, result_len: usize, pad: *mut u32, pad_len: usize) -> u32;
+        pub fn sps_header_check(bytes: *const u8, len: usize) -> u64;
+        pub fn sps_read_table(bytes: *const u8, len: usize, table: *mut u32, table_len: usize) -> u64;
+        pub fn sps_write_table(n: u32, m: u32, table: *const u32, table_len: usize,
+            buffer: *mut u8, buffer_len: usize) -> u64;
+    }
 }
 
 /// A safe wrapper over a function of two inputs, with or without a pad.

@@ -36,7 +36,6 @@ fn row(n: u32, m: u32, random: &mut Random) -> Vec<u32> {
 }
 
 #[test]
-#[cfg_attr(not(all(has_sps_sum, has_sps_exponential, has_sps_subset_product)), ignore = "absent")]
 fn exponential_of_a_sum_is_the_product_of_exponentials() {
     for_each_panel(|n, m, random| {
         let (a, b) = (table(n, m, 0, random), table(n, m, 0, random));
@@ -47,7 +46,6 @@ fn exponential_of_a_sum_is_the_product_of_exponentials() {
 }
 
 #[test]
-#[cfg_attr(not(all(has_sps_exponential, has_sps_logarithm)), ignore = "absent")]
 fn logarithm_and_exponential_undo_each_other() {
     for_each_panel(|n, m, random| {
         let (a, e) = (table(n, m, 0, random), table(n, m, 1, random));
@@ -59,7 +57,6 @@ fn logarithm_and_exponential_undo_each_other() {
 }
 
 #[test]
-#[cfg_attr(not(all(has_sps_composition, has_sps_binomial_product, has_sps_subset_product)), ignore = "absent")]
 fn composition_turns_binomial_into_subset_products() {
     for_each_panel(|n, m, random| {
         let (a, f, g) = (table(n, m, 0, random), row(n, m, random), row(n, m, random));
@@ -70,7 +67,6 @@ fn composition_turns_binomial_into_subset_products() {
 }
 
 #[test]
-#[cfg_attr(not(all(has_sps_composition, has_sps_exponential)), ignore = "absent")]
 fn exponential_is_composition_with_ones() {
     for_each_panel(|n, m, random| {
         let a = table(n, m, 0, random);
@@ -80,7 +76,6 @@ fn exponential_is_composition_with_ones() {
 }
 
 #[test]
-#[cfg_attr(not(all(has_sps_inverse, has_sps_subset_product)), ignore = "absent")]
 fn product_with_the_inverse_is_one_at_the_empty_set() {
     for_each_panel(|n, m, random| {
         for first in [1, m - 1] {
@@ -94,7 +89,6 @@ fn product_with_the_inverse_is_one_at_the_empty_set() {
 }
 
 #[test]
-#[cfg_attr(not(all(has_sps_sum, has_sps_difference)), ignore = "absent")]
 fn difference_undoes_the_sum() {
     for_each_panel(|n, m, random| {
         let (a, b) = (table(n, m, 0, random), table(n, m, 1, random));

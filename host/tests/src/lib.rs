@@ -1,5 +1,5 @@
 //! Tests of the C interface (`host/include/sps.h`) against an independent implementation written from the
-//! specification's sentences. A test of a function that the linked library does not have is ignored.
+//! specification's sentences.
 #![cfg(test)]
 
 // What the tests are made of.

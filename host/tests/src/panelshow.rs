@@ -33,7 +33,6 @@ fn check(bytes: &[u8]) {
 }
 
 #[test]
-#[cfg_attr(not(has_panelshow), ignore = "absent")]
 fn the_papers_example() {
     assert_eq!(printed(&[&[2, 7, 0, 3, 0, 5]]), "2 7\n1 1 3\n3 2 5\n");
     assert_eq!(printed(&[&[]]), "refused 8\n");
@@ -41,7 +40,6 @@ fn the_papers_example() {
 }
 
 #[test]
-#[cfg_attr(not(has_panelshow), ignore = "absent")]
 fn whole_files() {
     let random = &mut Random::new(27);
     for n in 0..=8 {
@@ -54,7 +52,6 @@ fn whole_files() {
 }
 
 #[test]
-#[cfg_attr(not(has_panelshow), ignore = "absent")]
 fn damaged_files() {
     let random = &mut Random::new(28);
     for (n, m) in [(0, 2), (1, 300), (2, 7), (3, 2_147_483_647)] {
@@ -76,7 +73,6 @@ fn damaged_files() {
 
 /// A tail is refused however long it is; a file of the greatest length is not.
 #[test]
-#[cfg_attr(not(has_panelshow), ignore = "absent")]
 fn tails() {
     let random = &mut Random::new(29);
     for n in [0, 2, 8] {
@@ -90,7 +86,6 @@ fn tails() {
 
 /// A panel above 8 is refused before m is read, also when the file is whole.
 #[test]
-#[cfg_attr(not(has_panelshow), ignore = "absent")]
 fn larger_panels() {
     let random = &mut Random::new(30);
     for n in 9..=16 {
@@ -107,7 +102,6 @@ fn larger_panels() {
 
 /// An input may come piece by piece.
 #[test]
-#[cfg_attr(not(has_panelshow), ignore = "absent")]
 fn input_in_pieces() {
     let random = &mut Random::new(31);
     for n in [2, 5, 8] {

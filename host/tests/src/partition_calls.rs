@@ -38,25 +38,21 @@ fn both(call: Call) {
 }
 
 #[test]
-#[cfg_attr(not(has_sps_exponential), ignore = "absent")]
 fn exponential() {
     both(Call::Exponential);
 }
 
 #[test]
-#[cfg_attr(not(has_sps_logarithm), ignore = "absent")]
 fn logarithm() {
     both(Call::Logarithm);
 }
 
 #[test]
-#[cfg_attr(not(has_sps_inverse), ignore = "absent")]
 fn inverse() {
     both(Call::Inverse);
 }
 
 #[test]
-#[cfg_attr(not(has_sps_composition), ignore = "absent")]
 fn composition() {
     both(Call::Composition);
 }
@@ -66,7 +62,6 @@ const LARGE: [(u32, u32); 6] =
     [(11, 6), (12, 30030), (13, 2_147_483_647), (14, 4), (15, 1_000_000_007), (16, 2_147_483_646)];
 
 #[test]
-#[cfg_attr(not(has_sps_exponential), ignore = "absent")]
 fn exponential_of_large_panels() {
     let random = &mut Random::new(15);
     for (n, m) in LARGE {
@@ -77,7 +72,6 @@ fn exponential_of_large_panels() {
 }
 
 #[test]
-#[cfg_attr(not(has_sps_composition), ignore = "absent")]
 fn composition_of_large_panels() {
     let random = &mut Random::new(16);
     for (n, m) in LARGE.into_iter().filter(|(n, _)| *n <= 14) {
@@ -89,7 +83,6 @@ fn composition_of_large_panels() {
 
 /// The exponential of the result is what was given.
 #[test]
-#[cfg_attr(not(has_sps_logarithm), ignore = "absent")]
 fn logarithm_of_large_panels() {
     let random = &mut Random::new(17);
     for (n, m) in LARGE {
@@ -102,7 +95,6 @@ fn logarithm_of_large_panels() {
 
 /// The pairs of the input and the result add up to 1 at the empty set and to 0 elsewhere.
 #[test]
-#[cfg_attr(not(has_sps_inverse), ignore = "absent")]
 fn inverse_of_large_panels() {
     let random = &mut Random::new(18);
     for (n, m) in LARGE {

@@ -20,7 +20,6 @@ fn gives(call: Call, m: u32, inputs: &[&[u32]], expected: &[u32]) -> u32 {
 }
 
 #[test]
-#[cfg_attr(not(has_sps_subset_product), ignore = "absent")]
 fn entries_1_11_12_subset_product() {
     gives(Call::SubsetProduct, 101, &[&P, &Q], &[5, 16, 22, 60]);
     gives(Call::SubsetProduct, 5, &[&[3], &[4]], &[2]);
@@ -28,25 +27,21 @@ fn entries_1_11_12_subset_product() {
 }
 
 #[test]
-#[cfg_attr(not(has_sps_union_product), ignore = "absent")]
 fn entry_2_union_product() {
     gives(Call::UnionProduct, 101, &[&P, &Q], &[5, 28, 43, 83]);
 }
 
 #[test]
-#[cfg_attr(not(has_sps_xor_product), ignore = "absent")]
 fn entry_3_xor_product() {
     gives(Call::XorProduct, 101, &[&P, &Q], &[70, 68, 62, 60]);
 }
 
 #[test]
-#[cfg_attr(not(has_sps_inverse), ignore = "absent")]
 fn entry_4_inverse() {
     gives(Call::Inverse, 101, &[&P], &[1, 99, 98, 8]);
 }
 
 #[test]
-#[cfg_attr(not(has_sps_exponential), ignore = "absent")]
 fn entries_5_9_10_exponential() {
     gives(Call::Exponential, 101, &[&R], &[1, 2, 3, 10]);
     gives(Call::Exponential, 101, &[&[0, 1, 1, 1, 1, 1, 1, 1]], &[1, 1, 1, 2, 1, 2, 2, 5]);
@@ -54,26 +49,22 @@ fn entries_5_9_10_exponential() {
 }
 
 #[test]
-#[cfg_attr(not(has_sps_logarithm), ignore = "absent")]
 fn entry_6_logarithm() {
     gives(Call::Logarithm, 101, &[&[1, 2, 3, 10]], &R);
 }
 
 #[test]
-#[cfg_attr(not(has_sps_composition), ignore = "absent")]
 fn entry_7_composition() {
     gives(Call::Composition, 101, &[&R, &[1, 0, 5]], &[1, 0, 0, 30]);
 }
 
 #[test]
-#[cfg_attr(not(has_sps_binomial_product), ignore = "absent")]
 fn entry_8_binomial_product() {
     gives(Call::BinomialProduct, 101, &[&[1, 0, 5], &[1, 1, 1]], &[1, 1, 6]);
 }
 
 /// Ranks cut too short leave overlapping pairs in; a ceiling of n every time is no ceiling.
 #[test]
-#[cfg_attr(not(has_sps_subset_product), ignore = "absent")]
 fn slips_of_the_subset_product() {
     assert_eq!(gives(Call::SubsetProduct, 101, &[&[0, 1, 0, 0], &[0, 1, 0, 0]], &[0; 4]), 2);
     assert_eq!(gives(Call::SubsetProduct, 101, &[&[1, 0], &[1, 0]], &[1, 0]), 0);
@@ -84,7 +75,6 @@ fn slips_of_the_subset_product() {
 
 /// Under m = 3 with n = 3 no factorial can be divided by.
 #[test]
-#[cfg_attr(not(all(has_sps_exponential, has_sps_logarithm)), ignore = "absent")]
 fn slip_of_dividing_by_a_factorial() {
     for code in 0..3u32.pow(7) {
         let digit = |i| code / 3u32.pow(i) % 3;
@@ -99,7 +89,6 @@ fn slip_of_dividing_by_a_factorial() {
 
 /// A difference goes round through m.
 #[test]
-#[cfg_attr(not(has_sps_difference), ignore = "absent")]
 fn slip_of_subtracting() {
     gives(Call::Difference, 101, &[&P, &Q], &[97; 4]);
     gives(Call::Difference, 2_147_483_647, &[&[0, 0], &[1, 2_147_483_646]], &[2_147_483_646, 1]);
@@ -109,7 +98,6 @@ fn slip_of_subtracting() {
 /// n 16 is accepted, 17 refused; m 2 accepted, 1 refused; 2147483647 accepted, 2147483648 refused; entry m − 1 accepted,
 /// m refused. With n = 0 a table has one entry.
 #[test]
-#[cfg_attr(not(has_sps_sum), ignore = "absent")]
 fn edges_of_panel_modulus_and_entry() {
     let number =
         |n: u32, m, length: usize, entry| ffi::sum(n, m, &vec![entry; length], &vec![0; length], &mut vec![9; length]);
@@ -128,7 +116,6 @@ fn edges_of_panel_modulus_and_entry() {
 
 /// With n = 0 a row has one entry.
 #[test]
-#[cfg_attr(not(has_sps_binomial_product), ignore = "absent")]
 fn edge_of_rows() {
     gives(Call::BinomialProduct, 5, &[&[3], &[4]], &[2]);
     assert_eq!(ffi::binomial_product(0, 5, &[3, 0], &[4], &mut [9]), 3);
@@ -137,7 +124,6 @@ fn edge_of_rows() {
 
 /// Pad W is accepted, W − 1 refused.
 #[test]
-#[cfg_attr(not(has_sps_subset_product), ignore = "absent")]
 fn edge_of_the_pad() {
     for n in [0, 1, 2, 3, 8, 16] {
         let table = vec![1; 1 << n];
@@ -153,7 +139,6 @@ fn edge_of_the_pad() {
 
 /// The group bytes 80 00 are refused, and so is an empty file.
 #[test]
-#[cfg_attr(not(has_sps_header_check), ignore = "absent")]
 fn edges_of_files() {
     assert_eq!(ffi::header_check(&[0x80, 0x00, 7]), 8 << 40);
     assert_eq!(ffi::header_check(&[]), 8 << 40);
@@ -161,7 +146,6 @@ fn edges_of_files() {
 }
 
 #[test]
-#[cfg_attr(not(has_sps_read_table), ignore = "absent")]
 fn edges_of_the_reader() {
     let table = &mut [9; 4];
     assert_eq!(ffi::read_table(&[], table), 8 << 40);

@@ -6,7 +6,6 @@ use crate::random::{Fill, Random, FILLS};
 const CALL: Call = Call::SubsetProduct;
 
 #[test]
-#[cfg_attr(not(has_sps_subset_product), ignore = "absent")]
 fn small_panels() {
     let random = &mut Random::new(4);
     for n in 0..=8 {
@@ -21,7 +20,6 @@ fn small_panels() {
 }
 
 #[test]
-#[cfg_attr(not(has_sps_subset_product), ignore = "absent")]
 fn larger_panels() {
     let random = &mut Random::new(5);
     for n in 9..=13 {
@@ -38,7 +36,6 @@ fn larger_panels() {
 }
 
 #[test]
-#[cfg_attr(not(has_sps_subset_product), ignore = "absent")]
 fn largest_panel() {
     let random = &mut Random::new(6);
     for (m, fill) in [(2_147_483_647, Fill::Largest), (2_147_483_646, Fill::Uniform), (30030, Fill::Sparse)] {
@@ -51,7 +48,6 @@ fn largest_panel() {
 
 /// Each pair of single sets: their union where they are disjoint, else nothing.
 #[test]
-#[cfg_attr(not(has_sps_subset_product), ignore = "absent")]
 fn single_sets() {
     let single = |set: usize, entry| (0..32).map(|s| if s == set { entry } else { 0 }).collect::<Vec<u32>>();
     for left in 0..32 {
@@ -65,7 +61,6 @@ fn single_sets() {
 
 /// What result and pad held beforehand does not matter, nor how much longer the pad is, nor that the inputs are one slice.
 #[test]
-#[cfg_attr(not(has_sps_subset_product), ignore = "absent")]
 fn whatever_was_lent() {
     let random = &mut Random::new(7);
     for n in 0..=9 {

@@ -55,7 +55,6 @@ fn some_entries(call: Call, sets: usize, mut entry: impl FnMut(&mut Random, &Cas
 }
 
 #[test]
-#[cfg_attr(not(has_sps_union_product), ignore = "absent")]
 fn union_product() {
     small_panels(Call::UnionProduct);
     larger_panels(Call::UnionProduct);
@@ -63,7 +62,6 @@ fn union_product() {
 
 /// A union of size s has 3^s pairs.
 #[test]
-#[cfg_attr(not(has_sps_union_product), ignore = "absent")]
 fn union_product_of_large_panels() {
     some_entries(Call::UnionProduct, 40, |random, case| {
         let some = random.below(1 << case.n) as usize;
@@ -73,7 +71,6 @@ fn union_product_of_large_panels() {
 }
 
 #[test]
-#[cfg_attr(not(has_sps_union_product), ignore = "absent")]
 fn union_product_of_the_whole_largest_panel() {
     let case = Case::filled(Call::UnionProduct, 16, 2_147_483_646, [Fill::Uniform; 2], &mut Random::new(11));
     let everything = (1 << 16) - 1;
@@ -82,14 +79,12 @@ fn union_product_of_the_whole_largest_panel() {
 }
 
 #[test]
-#[cfg_attr(not(has_sps_xor_product), ignore = "absent")]
 fn xor_product() {
     small_panels(Call::XorProduct);
     larger_panels(Call::XorProduct);
 }
 
 #[test]
-#[cfg_attr(not(has_sps_xor_product), ignore = "absent")]
 fn xor_product_of_large_panels() {
     some_entries(Call::XorProduct, 100, |random, case| {
         let set = random.below(1 << case.n) as usize;
@@ -99,7 +94,6 @@ fn xor_product_of_large_panels() {
 
 /// Every even modulus is refused, and only for that when nothing else is wrong.
 #[test]
-#[cfg_attr(not(has_sps_xor_product), ignore = "absent")]
 fn xor_product_under_even_moduli() {
     let random = &mut Random::new(12);
     for n in [0, 1, 4] {

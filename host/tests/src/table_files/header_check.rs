@@ -13,7 +13,6 @@ fn check_header(bytes: &[u8]) {
 }
 
 #[test]
-#[cfg_attr(not(has_sps_header_check), ignore = "absent")]
 fn header_check_of_whole_and_damaged_files() {
     for_each_file(3, |file, random| {
         check_header(&file.bytes());
@@ -29,7 +28,6 @@ fn header_check_of_whole_and_damaged_files() {
 
 /// It stops after m: whatever follows, or nothing.
 #[test]
-#[cfg_attr(not(has_sps_header_check), ignore = "absent")]
 fn header_check_stops_after_m() {
     for n in 0..=20 {
         for m in [
@@ -61,7 +59,6 @@ fn header_check_stops_after_m() {
 
 /// In file order: n (8, then 1), m (8, then 2).
 #[test]
-#[cfg_attr(not(has_sps_header_check), ignore = "absent")]
 fn header_check_in_file_order() {
     for (word, bytes) in [
         (8, &[][..]),

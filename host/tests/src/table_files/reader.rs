@@ -33,7 +33,6 @@ fn check_reader_of_lengths(bytes: &[u8]) {
 }
 
 #[test]
-#[cfg_attr(not(has_sps_read_table), ignore = "absent")]
 fn reader_of_whole_and_damaged_files() {
     for_each_file(4, |file, random| {
         check_reader_of_lengths(&file.bytes());
@@ -50,7 +49,6 @@ fn reader_of_whole_and_damaged_files() {
 }
 
 #[test]
-#[cfg_attr(not(has_sps_read_table), ignore = "absent")]
 fn reader_of_large_files() {
     let random = &mut Random::new(23);
     for n in 9..=16 {
@@ -67,7 +65,6 @@ fn reader_of_large_files() {
 
 /// In file order: header, table length (3), each entry (8, then 5), end (9).
 #[test]
-#[cfg_attr(not(has_sps_read_table), ignore = "absent")]
 fn reader_in_file_order() {
     for (word, length, bytes) in [
         (8, 3, &[][..]),
@@ -101,7 +98,6 @@ fn reader_in_file_order() {
 
 /// The sample files are accepted.
 #[test]
-#[cfg_attr(not(all(has_sps_header_check, has_sps_read_table)), ignore = "absent")]
 fn samples() {
     let folder = concat!(env!("CARGO_MANIFEST_DIR"), "/../../samples");
     for (name, n) in [("two-controls.table", 2), ("four-controls.table", 4), ("eight-controls.table", 8)] {

@@ -20,7 +20,6 @@ fn check_writer(file: &File, buffer_length: usize, word: u32) {
 }
 
 #[test]
-#[cfg_attr(not(has_sps_write_table), ignore = "absent")]
 fn writer_of_all_panels() {
     for_each_file(8, |file, _| {
         let length = file.bytes().len();
@@ -42,7 +41,6 @@ fn writer_of_all_panels() {
 
 /// Entries at both sides of each place where a number gets a byte longer.
 #[test]
-#[cfg_attr(not(has_sps_write_table), ignore = "absent")]
 fn writer_of_numbers_of_every_length() {
     let m = 2_147_483_647;
     for bits in [7, 14, 21, 28, 31] {
@@ -58,7 +56,6 @@ fn writer_of_numbers_of_every_length() {
 
 /// Refusals 1, 2, 3, 5 and 10, in every company; the lowest counts.
 #[test]
-#[cfg_attr(not(has_sps_write_table), ignore = "absent")]
 fn writer_refusals() {
     let random = &mut Random::new(25);
     for n in [0, 1, 3, 6] {
@@ -93,7 +90,6 @@ fn writer_refusals() {
 
 /// A table written to a file reads back the same, and an accepted file is the one its table is written to.
 #[test]
-#[cfg_attr(not(all(has_sps_read_table, has_sps_write_table)), ignore = "absent")]
 fn there_and_back() {
     for_each_file(10, |file, _| {
         let mut bytes = vec![0xee; 6 + 5 * file.entries.len()];
