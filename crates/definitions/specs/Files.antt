@@ -1,14 +1,14 @@
 -- The table file: n, then m, then the 2 ^ n entries in rising code, then nothing. How it is written, and what reading one
 -- gives, in file order.
-use mathlib.Core.Bool.{Bool, cond, not}
+use mathlib.Core.Bool.{not}
 use mathlib.Core.List.{List, [], _∷_, _++_, flatMap}
 use Prim.Native.Nat.{ℕ, zero, suc, _+_, _*_, _^_}
 use lib.Dec.{ltb, eqb}
 use lib.ListN.{length, drop}
 use Rattle.definitions.specs.Limits.{mostControls}
-use Rattle.definitions.specs.Outcomes.{Outcome, accepted, refused, andThen, unless, numberOf, valueOr}
+use Rattle.definitions.specs.Outcomes.{Outcome, accepted, andThen, unless, numberOf, valueOr}
 use Rattle.definitions.specs.Refusals.{wordIf, firstWord, panelWord, modulusWord, tableWord, entryWord, after, valueAfter}
-use Rattle.definitions.specs.Groups.{Numeral, groups, readNumber}
+use Rattle.definitions.specs.Groups.{groups, readNumber}
 
 -- ---- writing
 

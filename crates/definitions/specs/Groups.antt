@@ -1,9 +1,9 @@
 -- Numbers in a file: groups of seven bits, lowest group first, one to a byte; the top bit is 1 when another group follows.
 -- The shortest form is the only one allowed, and values stay below 2 ^ 32.
-use mathlib.Core.Bool.{Bool, cond, _&&_, not}
+use mathlib.Core.Bool.{cond, _&&_, not}
 use mathlib.Core.List.{List, [], _∷_}
 use Prim.Native.Nat.{ℕ, zero, suc, _+_, _*_, _-_, _/_, _%_, _^_}
-use lib.Dec.{ltb, leb}
+use lib.Dec.{ltb}
 use Rattle.definitions.specs.Refusals.{wordIf}
 use Rattle.definitions.specs.Outcomes.{Outcome, accepted, refused, andThen, unless}
 

@@ -1,5 +1,4 @@
 -- What a reading step gives: a value, or a word of refusal. Steps follow one another, and the first refusal counts.
-use mathlib.Core.Bool.{Bool, true, false}
 use Prim.Native.Nat.{ℕ, zero, suc}
 
 pub data Outcome (X : Type 0) : Type 0 where

@@ -1,7 +1,7 @@
 -- The partitions of a set of controls, and what is summed over them: composition, exponential and, by that, the logarithm.
 -- Also the inverse under the subset product.
 use mathlib.Core.Path.{_≡_}
-use mathlib.Core.Bool.{Bool, true, false, cond, _&&_}
+use mathlib.Core.Bool.{Bool, true, cond, _&&_}
 use mathlib.Core.List.{List, [], _∷_, map, flatMap}
 use Prim.Native.Nat.{ℕ, zero, suc, _+_, _*_, _-_, _%_, _^_}
 use lib.Dec.{ltb, eqb}

@@ -1,6 +1,6 @@
 -- Sum, difference and the three products of tables of n controls. Each is a sum of natural numbers whose remainder by m is
 -- taken once, at the end.
-use mathlib.Core.Bool.{Bool, cond}
+use mathlib.Core.Bool.{cond}
 use mathlib.Core.List.{List}
 use Prim.Native.Nat.{ℕ, _+_, _*_, _-_, _%_, _^_, min}
 use lib.Bits.{bitOr, bitXor}

@@ -1,13 +1,12 @@
 -- 01's examples of numbers, files and printed lines.
 use mathlib.Core.Path.{_≡_, refl}
-use mathlib.Core.List.{List, [], _∷_, flatMap}
-use Prim.Native.Nat.{ℕ}
+use mathlib.Core.List.{[], _∷_, flatMap}
 use lib.Count.{ones}
-use Rattle.definitions.specs.Sums.{tabulate, at}
-use Rattle.definitions.specs.Outcomes.{accepted, refused}
-use Rattle.definitions.specs.Groups.{Numeral, groups, groupsIn, readNumber}
+use Rattle.definitions.specs.Sums.{tabulate}
+use Rattle.definitions.specs.Outcomes.{refused}
+use Rattle.definitions.specs.Groups.{groups, groupsIn, readNumber}
 use Rattle.definitions.specs.Files.{controlsOf, readHeader, readEntries, headerNumber}
-use Rattle.definitions.specs.Show.{digitsIn, entryLine, tableText, refusalText, readShown, shown}
+use Rattle.definitions.specs.Show.{digitsIn, entryLine, tableText, readShown, shown}
 
 pub three-hundred : groups 300 ≡ 0xAC ∷ 0x02 ∷ []
 unfolding groupsIn

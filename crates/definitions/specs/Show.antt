@@ -5,7 +5,7 @@ use mathlib.Core.List.{List, [], _∷_, _++_, flatMap}
 use Prim.Native.Nat.{ℕ, zero, suc, _+_, _/_, _%_, _^_}
 use lib.Dec.{ltb, eqb}
 use Rattle.definitions.specs.Limits.{mostShown}
-use Rattle.definitions.specs.Sums.{tabulate, keep, at}
+use Rattle.definitions.specs.Sums.{tabulate, at}
 use Rattle.definitions.specs.Sets.{size}
 use Rattle.definitions.specs.Outcomes.{Outcome, accepted, refused, andThen}
 use Rattle.definitions.specs.Files.{TableFile, readHeader, readBody}

@@ -1,11 +1,9 @@
 -- 01's entries worked by hand, as one theorem of the definitions.
 use mathlib.Core.Path.{_≡_, refl}
-use mathlib.Core.Bool.{_&&_}
-use mathlib.Core.List.{List, [], _∷_, map, flatMap}
-use Prim.Native.Nat.{ℕ, _+_}
-use lib.Bits.{bitOr, bitXor}
+use mathlib.Core.List.{List, [], _∷_, flatMap}
+use Prim.Native.Nat.{ℕ}
 use lib.Count.{ones}
-use Rattle.definitions.specs.Sums.{sum, listSum, count, largest, tabulate, keep, at}
+use Rattle.definitions.specs.Sums.{sum, listSum, count, largest, tabulate, keep}
 use Rattle.definitions.specs.Sets.{inside, subsets}
 use Rattle.definitions.specs.Products.{residues, subsetSum, pairSum, subsetTable, unionTable, xorTable, degree, degreeBound}
 use Rattle.definitions.specs.Rows.{choose, binomialSum, binomialRow}

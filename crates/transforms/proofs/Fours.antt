@@ -1,11 +1,13 @@
 -- Two controls at once: what is stored at four places, and the loop over them, which leaves a table after its first two controls.
 use mathlib.Core.Path.{_≡_, refl, ap, ap₂, sym, _∙_}
 use mathlib.Core.List.{List}
-use Prim.Native.Nat.{ℕ, suc, _+_, _-_, _*_, _^_, _<_, _≤_}
-use native.Mathlib.Nat.{add-zero}
+use Prim.Native.Nat.{ℕ, suc, _+_, _-_, _*_, _%_, _^_, _<_, _≤_}
+use native.Mathlib.Nat.{add-zero, add-comm, mod-lt, mod-mod, mod-add-mod, mul-add-mod-self-right}
 use native.Mathlib.Omega.{arith}
 use lib.ListN.{length, set}
 use Rattle.definitions.specs.Sums.{tabulate, at}
+use Rattle.theory.specs.Remainders.{mod-add, mod-cancel}
+use Rattle.theory.specs.Convolution.{takeLower}
 use Rattle.theory.specs.Passes.{pass, passes, pass-lo, pass-hi}
 use Rattle.checks.specs.Accepted.{IsTable}
 use Rattle.transforms.specs.Steps.{lowerOf, upperOf, FourBelow, FourOf, CanCrossFour, crossedFour, Applying}
@@ -17,6 +19,48 @@ use Rattle.transforms.proofs.Controls.{tabulated, passes-below}
 -- a step on what steps gave
 pub joined : (g : ℕ → ℕ → ℕ) {r x y u v : ℕ} → r ≡ g x y → x ≡ u → y ≡ v → r ≡ g u v
 joined g e c d = e ∙ ap₂ g c d
+
+-- ---- inclusion and exclusion
+
+module _ {m : ℕ} (pos : 0 < m) where
+  -- what was taken is added again
+  back : (lo hi : ℕ) → lo < m → (takeLower m lo hi + lo) % m ≡ hi % m
+  back lo hi h =
+      let e : hi + (m - lo) + lo ≡ 1 * m + hi = omega arith in
+      mod-add-mod (hi + (m - lo)) m lo ∙ ap (λ (k : ℕ). k % m) e ∙ mul-add-mod-self-right 1 m hi
+
+  -- both - second - (first - neither) is both + neither - (first + second)
+  module _ {x : Four} (h : FourBelow m x) {whole parts : ℕ} (is-whole : whole ≡ (x .both + x .neither) % m) (is-parts : parts ≡ (x .first + x .second) % m) where
+    abbrev u : ℕ
+    u = takeLower m (x .neither) (x .first)
+
+    abbrev v : ℕ
+    v = takeLower m (x .second) (x .both)
+
+    left : (x .first + x .second + takeLower m u v) % m ≡ (x .both + x .neither) % m
+    left =
+        let r = takeLower m u v in
+        let e : x .first + x .second + r ≡ x .first + (x .second + r) = omega arith in
+        let d : u + x .neither + (x .second + r) ≡ r + u + (x .second + x .neither) = omega arith in
+        let c : v + (x .second + x .neither) ≡ v + x .second + x .neither = omega arith in
+        ap (λ (k : ℕ). k % m) e
+        ∙ mod-add m (x .first) (x .second + r) (u + x .neither) (x .second + r) (sym (back (x .neither) (x .first) (h .neither))) refl
+        ∙ ap (λ (k : ℕ). k % m) d
+        ∙ mod-add m (r + u) (x .second + x .neither) v (x .second + x .neither) (back u v (mod-lt _ pos)) refl
+        ∙ ap (λ (k : ℕ). k % m) c
+        ∙ mod-add m (v + x .second) (x .neither) (x .both) (x .neither) (back (x .second) (x .both) (h .second)) refl
+
+    right : (parts + takeLower m parts whole) % m ≡ (x .both + x .neither) % m
+    right =
+        ap (λ (k : ℕ). k % m) (add-comm parts (takeLower m parts whole))
+        ∙ back parts whole (rw is-parts (mod-lt _ pos)) ∙ ap (λ (k : ℕ). k % m) is-whole ∙ mod-mod (x .both + x .neither) m
+
+    pub excluded : takeLower m parts whole ≡ takeLower m u v
+    excluded =
+        sym (mod-mod _ m)
+        ∙ mod-cancel m pos parts (takeLower m parts whole) (x .first + x .second) (takeLower m u v)
+        (ap (λ (k : ℕ). k % m) is-parts ∙ mod-mod (x .first + x .second) m) (right ∙ sym left)
+        ∙ mod-mod _ m
 
 -- ---- at four places of a list
 

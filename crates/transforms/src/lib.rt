@@ -63,7 +63,7 @@ impl Transform {
         }
     }
 
-    // Two controls: the new entries of the four sets.
+    // Two controls: the new entries of the four sets; Möbius by inclusion and exclusion.
     fn four(self, modulus: Modulus, x: Four) -> Four
         requires { ⌜ Valid modulus ⌝ }
         requires { ⌜ FourBelow (modulus .value) x ⌝ }
@@ -81,13 +81,13 @@ impl Transform {
                 }
             }
             Transform::Moebius => {
-                let first = modulus.subtract(x.first, x.neither);
-                let both = modulus.subtract(x.both, x.second);
+                let whole = modulus.add(x.both, x.neither);
+                let parts = modulus.add(x.first, x.second);
                 Four {
                     neither: x.neither,
-                    first: first,
+                    first: modulus.subtract(x.first, x.neither),
                     second: modulus.subtract(x.second, x.neither),
-                    both: modulus.subtract(both, first),
+                    both: modulus.subtract(whole, parts),
                 }
             }
             Transform::Walsh => {
