@@ -1,7 +1,7 @@
 -- When a call is accepted: the facts that its tests give, and that these facts are enough. For each shape of call a record of
 -- the facts, `SHAPE-accepted` from the number 0 to the record and `SHAPE-accepts` back.
 use mathlib.Core.Path.{_≡_, refl}
-use mathlib.Core.Bool.{Bool, true, false, not}
+use mathlib.Core.Bool.{true, not}
 use mathlib.Core.List.{List, [], _∷_}
 use Prim.Native.Nat.{ℕ, _+_, _^_, _<_, _≤_}
 use native.Mathlib.Omega.{arith}
@@ -117,33 +117,14 @@ module _ (n m long : ℕ) (a b : List ℕ) (r : ℕ) where
   pub pair-accepted : firstWord (panelWord n ∷ modulusWord m ∷ pairWords m long a b r) ≡ 0 → Pair n m long a b r
   pair-accepted e = pair-facts (all-zero (panelWord n ∷ modulusWord m ∷ pairWords m long a b r) e)
 
-  pub pair-accepts : Pair n m long a b r → firstWord (panelWord n ∷ modulusWord m ∷ pairWords m long a b r) ≡ 0
-  pair-accepts h =
-      range-panel (h .range)
-      and range-modulus (h .range)
-      and entries-length (h .first)
-      and entries-length (h .second)
-      and length-right long r (h .result)
-      and entries-below (h .first)
-      and entries-below (h .second)
-      and refl
-
 module _ (n m : ℕ) (a b : List ℕ) (r : ℕ) where
   pub sum-accepted : sumNumber n m a b r ≡ 0 → Pair n m (2 ^ n) a b r
   unfolding sumNumber
   sum-accepted e = pair-accepted n m (2 ^ n) a b r e
 
-  pub sum-accepts : Pair n m (2 ^ n) a b r → sumNumber n m a b r ≡ 0
-  unfolding sumNumber
-  sum-accepts h = pair-accepts n m (2 ^ n) a b r h
-
   pub binomial-accepted : binomialNumber n m a b r ≡ 0 → Pair n m (n + 1) a b r
   unfolding binomialNumber
   binomial-accepted e = pair-accepted n m (n + 1) a b r e
-
-  pub binomial-accepts : Pair n m (n + 1) a b r → binomialNumber n m a b r ≡ 0
-  unfolding binomialNumber
-  binomial-accepts h = pair-accepts n m (n + 1) a b r h
 
 -- ---- two tables, a result and a workspace of p entries: subset and union product, and xor product before its own test
 
@@ -180,19 +161,6 @@ module _ (n m : ℕ) (a b : List ℕ) (r p : ℕ) where
   unfolding productNumber
   product-accepted e = product-facts (all-zero (panelWord n ∷ modulusWord m ∷ productWords n m a b r p) e)
 
-  pub product-accepts : Product n m a b r p → productNumber n m a b r p ≡ 0
-  unfolding productNumber
-  product-accepts h =
-      range-panel (h .range)
-      and range-modulus (h .range)
-      and entries-length (h .first)
-      and entries-length (h .second)
-      and length-right (2 ^ n) r (h .result)
-      and pad-long n p (h .pad)
-      and entries-below (h .first)
-      and entries-below (h .second)
-      and refl
-
 -- ---- one table, a result and a workspace: inverse, exponential, logarithm, before their first entry is looked at
 
 pub record Single (n m : ℕ) (a : List ℕ) (r p : ℕ) : Type 0 where
@@ -215,29 +183,9 @@ module _ (n m : ℕ) (a : List ℕ) (r p : ℕ) where
   unfolding singleNumber
   single-accepted e = single-facts (all-zero (panelWord n ∷ modulusWord m ∷ singleWords n m a r p) e)
 
-  pub single-accepts : Single n m a r p → singleNumber n m a r p ≡ 0
-  unfolding singleNumber
-  single-accepts h =
-      range-panel (h .range)
-      and range-modulus (h .range)
-      and entries-length (h .table)
-      and length-right (2 ^ n) r (h .result)
-      and pad-long n p (h .pad)
-      and entries-below (h .table)
-      and refl
-
   -- with a first entry: exponential (0) and logarithm (1)
   abbrev pub startNumber : ℕ → ℕ
   startNumber first = orElse (singleNumber n m a r p) (startWord first a)
-
-  pub start-accepted : (first : ℕ) → startNumber first ≡ 0 → Single n m a r p × (at a 0 ≡ first)
-  start-accepted first e = (
-    single-accepted (orElse-first (singleNumber n m a r p) _ e),
-    right-start first a (orElse-second (singleNumber n m a r p) _ e),
-  )
-
-  pub start-accepts : (first : ℕ) → Single n m a r p → at a 0 ≡ first → startNumber first ≡ 0
-  start-accepts first h e = single-accepts h and start-right first a e
 
   pub exponential-number : exponentialNumber n m a r p ≡ startNumber 0
   unfolding exponentialNumber
@@ -285,20 +233,6 @@ module _ (n m : ℕ) (a f : List ℕ) (r p : ℕ) where
   unfolding compositionNumber
   composition-accepted e = composition-facts (all-zero (panelWord n ∷ modulusWord m ∷ compositionWords n m a f r p) e)
 
-  pub composition-accepts : Composition n m a f r p → compositionNumber n m a f r p ≡ 0
-  unfolding compositionNumber
-  composition-accepts h =
-      range-panel (h .range)
-      and range-modulus (h .range)
-      and entries-length (h .table)
-      and entries-length (h .row)
-      and length-right (2 ^ n) r (h .result)
-      and pad-long n p (h .pad)
-      and entries-below (h .table)
-      and entries-below (h .row)
-      and start-right 0 a (h .start)
-      and refl
-
 -- ---- one list alone: 01's *accepted* table or row, and the writer before its buffer is looked at
 
 abbrev pub listNumber : ℕ → ℕ → ℕ → List ℕ → ℕ
@@ -330,6 +264,3 @@ module _ (n m : ℕ) (a : List ℕ) where
 
   pub row-accepted : AcceptedRow n m a → InRange n m × IsRow n m a
   row-accepted e = list-accepted n m (n + 1) a e
-
-  pub row-accepts : InRange n m → IsRow n m a → AcceptedRow n m a
-  row-accepts i h = list-accepts n m (n + 1) a i h

@@ -1,14 +1,14 @@
 // The ranked subset product of 001 section 1, on rows. Row h has 2n + 2 numbers. On the way down the two factors lie side by
 // side, the left one's rank k at 2k and the right one's at 2k + 1; from one entry up, the row holds the result's rank k at k.
 ghost use mathlib.Core.Path.{_≡_};
-ghost use Prim.Native.Nat.{ℕ, _+_, _-_, _*_, _%_, _^_, _≤_, _<_, min};
+ghost use Prim.Native.Nat.{_+_, _-_, _*_, _^_, _≤_, _<_, min};
 ghost use lib.ListN.{length};
 ghost use Rattle.definitions.specs.Sets.{size};
 ghost use Rattle.definitions.specs.Products.{subsetTable};
 ghost use Rattle.residues.specs.Moduli.{Valid, Residue};
 ghost use Rattle.sets.specs.Sizes.{ByteSizes};
-ghost use Rattle.ranked_theory.specs.Rows.{Added, Subtracted, RowStep, RowReady, RowsStep, RowsReady, coefficientCount, coefficient, RowOfResidues, Coefficients, Stored, Multiplied};
-ghost use Rattle.ranked_theory.specs.Recursion.{width, Ready, Worked, Laid, LaidLeft, Room, LaidOut, ReadOff, FactorsReady, ProductOfLaid, TablesReady};
+ghost use Rattle.ranked_theory.specs.Rows.{Added, Subtracted, RowStep, RowReady, RowsStep, RowsReady, coefficient, RowOfResidues, Coefficients, Stored, Multiplied};
+ghost use Rattle.ranked_theory.specs.Recursion.{width, Ready, Worked, LaidLeft, Room, LaidOut, ReadOff, FactorsReady, ProductOfLaid, TablesReady};
 use ranked_runs::add_run;
 use ranked_runs::store_pair;
 use ranked_runs::subtract_run;

@@ -3,14 +3,14 @@
 --   conv-add-left, conv-add-right     it is bilinear
 --   conv-window                       of factors of degree d at most: the terms that count
 --   conv-past, conv-lowest            above both degrees, and where both factors start
-use mathlib.Core.Path.{_≡_, refl, sym, ap, ap₂, _∙_}
+use mathlib.Core.Path.{_≡_, sym, ap, ap₂, _∙_}
 use mathlib.Core.Logic.{_⊎_, inl, inr, ⊎-elim}
 use Prim.Native.Nat.{ℕ, suc, _+_, _-_, _*_, _≤_, _<_}
 use native.Mathlib.Nat.{add-zero, zero-add, add-mul, mul-add, zero-mul, mul-zero}
 use native.Mathlib.Omega.{arith}
 use Rattle.definitions.specs.Sums.{sum}
 use Rattle.theory.specs.Tests.{below-or}
-use Rattle.theory.specs.Sums.{sum-ext, sum-plus, sum-zero, sum-split, sum-front}
+use Rattle.theory.specs.Sums.{sum-ext, sum-plus, sum-zero, sum-split}
 
 unfoldable pub conv : (ℕ → ℕ) → (ℕ → ℕ) → ℕ → ℕ
 conv a b k = sum (suc k) (λ l. a l * b (k - l))

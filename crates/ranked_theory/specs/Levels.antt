@@ -2,16 +2,16 @@
 --   down-first, down-second       what the two halves take after step (1)
 --   up-ready, up                  what step (2) takes and leaves
 --   leaf-row, leaf                one entry
-use mathlib.Core.Path.{_≡_, refl, sym, ap, ap₂, subst, _∙_}
+use mathlib.Core.Path.{_≡_, sym, ap, ap₂, subst, _∙_}
 use mathlib.Core.List.{List, _++_}
-use mathlib.Core.Logic.{_⊎_, inl, inr, ⊎-elim}
-use Prim.Native.Nat.{ℕ, zero, suc, _+_, _-_, _*_, _%_, _^_, _≤_, _<_, min}
+use mathlib.Core.Logic.{inl, inr, ⊎-elim}
+use Prim.Native.Nat.{ℕ, suc, _+_, _-_, _*_, _%_, _^_, _≤_, _<_, min}
 use native.Mathlib.Nat.{add-zero, zero-add, zero-mul, one-mul, mod-lt, mod-mod, add-mod, add-comm, add-mul}
 use native.Mathlib.Omega.{arith}
 use lib.Arith.{lt-one}
 use lib.ListN.{length, take, drop, length-append, length-drop, List·getD-append}
 use lib.Seq.{getD-take, getD-drop, getD-append-add, length-take-le}
-use Rattle.definitions.specs.Sums.{sum, at}
+use Rattle.definitions.specs.Sums.{at}
 use Rattle.definitions.specs.Sets.{size}
 use Rattle.theory.specs.Tests.{below-or}
 use Rattle.theory.specs.Sums.{sum-mod}
@@ -19,7 +19,7 @@ use Rattle.theory.specs.Remainders.{mod-mul, mod-sub}
 use Rattle.theory.specs.Codes.{by-top, size-top, size-le}
 use Rattle.ranked_theory.specs.Convolution.{conv, conv-window}
 use Rattle.ranked_theory.specs.Cover.{cover, both, cover-low, cover-both, cover-upto, no-control, Ranks, ranks-low, ranks-both}
-use Rattle.ranked_theory.specs.Rows.{plus, minus, Placed, Added, Subtracted, RowsStep, RowsReady, coefficient, coefficientCount, RowOfResidues, Multiplied}
+use Rattle.ranked_theory.specs.Rows.{plus, minus, Added, Subtracted, RowsStep, RowsReady, coefficientCount, RowOfResidues, Multiplied}
 use Rattle.ranked_theory.specs.Recursion.{width, Ready, Factor, Worked}
 use Rattle.ranked_theory.specs.Places.{row-in}
 

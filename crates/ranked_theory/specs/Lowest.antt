@@ -3,7 +3,7 @@
 --   ranked              01's table A as a function of a code and a rank
 --   ranked-ranks        its ranks
 --   cover-ranked        the product of two
-use mathlib.Core.Path.{_≡_, refl, sym, ap, ap₂, _∙_}
+use mathlib.Core.Path.{_≡_, sym, ap, ap₂, _∙_}
 use mathlib.Core.Bool.{cond}
 use Prim.Native.Nat.{ℕ, zero, suc, _+_, _*_, _^_, _<_}
 use native.Mathlib.Nat.{add-zero, zero-add, add-comm}

@@ -13,8 +13,7 @@ use lib.Seq.{getD-set-same, getD-set-other}
 use lib.Pow.{pow-mono}
 use Rattle.definitions.specs.Sums.{at}
 use Rattle.definitions.specs.Sets.{size}
-use Rattle.theory.specs.Tests.{below-or}
-use Rattle.ranked_theory.specs.Rows.{plus, minus, stored, Placed, Run, RunReady, Added, Subtracted, RowStep, RowReady, RowsStep, RowsReady, coefficient, Coefficients}
+use Rattle.ranked_theory.specs.Rows.{plus, minus, stored, Run, RunReady, Added, Subtracted, RowStep, RowReady, RowsStep, RowsReady, coefficient, Coefficients}
 use Rattle.ranked_theory.specs.Places.{row-in, at-next}
 
 -- ---- a run in the row mid past row u, from the row's place lo on

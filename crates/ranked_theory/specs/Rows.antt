@@ -5,7 +5,6 @@ use mathlib.Core.Logic.{_⊎_}
 use Prim.Native.Nat.{ℕ, _+_, _-_, _*_, _%_, _^_, _≤_, _<_, min}
 use lib.ListN.{length}
 use Rattle.definitions.specs.Sums.{sum, at}
-use Rattle.definitions.specs.Sets.{size}
 
 -- ---- a run of numbers
 

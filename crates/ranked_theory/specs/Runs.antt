@@ -5,13 +5,13 @@
 use mathlib.Core.Path.{_≡_, refl, sym, ap₂, subst, _∙_}
 use mathlib.Core.List.{List}
 use mathlib.Core.Logic.{inl, inr, ⊎-elim}
-use Prim.Native.Nat.{ℕ, zero, suc, _+_, _-_, _≤_, _<_}
+use Prim.Native.Nat.{ℕ, _+_, _-_, _≤_, _<_}
 use native.Mathlib.Nat.{add-zero, add-assoc}
 use native.Mathlib.Omega.{arith}
 use lib.ListN.{length, set, length-set}
 use Rattle.definitions.specs.Sums.{at}
 use Rattle.theory.specs.Tests.{below-or}
-use Rattle.ranked_theory.specs.Rows.{Placed, Run, RunReady}
+use Rattle.ranked_theory.specs.Rows.{Run, RunReady}
 use Rattle.ranked_theory.specs.Places.{placed-none, placed-more}
 
 -- ---- the first number

@@ -3,8 +3,8 @@
 --   root-ready, root-product     what the recursion takes and leaves at the root
 use mathlib.Core.Path.{_≡_, refl, sym, ap, ap₂, subst, _∙_}
 use mathlib.Core.List.{List, _++_}
-use mathlib.Core.Logic.{_⊎_, inl, inr, ⊎-elim}
-use Prim.Native.Nat.{ℕ, suc, _+_, _*_, _%_, _^_, _≤_, _<_}
+use mathlib.Core.Logic.{⊎-elim}
+use Prim.Native.Nat.{ℕ, _+_, _*_, _%_, _^_, _≤_, _<_}
 use native.Mathlib.Nat.{add-zero, mod-eq-of-lt, not-suc-le-zero}
 use native.Mathlib.Omega.{arith}
 use lib.Pow.{pow-mono}
@@ -12,12 +12,12 @@ use lib.ListN.{length, take, drop, set, length-set, List·getD-append}
 use lib.Seq.{getD-set-same, getD-set-other, getD-take, length-take-le}
 use Rattle.definitions.specs.Sums.{at}
 use Rattle.definitions.specs.Sets.{size}
-use Rattle.definitions.specs.Products.{subsetSum, subsetTable}
+use Rattle.definitions.specs.Products.{subsetSum}
 use Rattle.theory.specs.Tests.{below-or}
 use Rattle.theory.specs.Codes.{size-le}
 use Rattle.theory.specs.Lists.{residues-of}
 use Rattle.ranked_theory.specs.Lowest.{ranked, ranked-on, ranked-ranks, cover-ranked}
-use Rattle.ranked_theory.specs.Recursion.{width, Ready, Factor, Worked, Laid, LaidLeft, Room, LaidOut, ReadOff, FactorsReady, ProductOfLaid, TablesReady}
+use Rattle.ranked_theory.specs.Recursion.{width, Ready, Factor, Worked, Laid, LaidLeft, LaidOut, ReadOff, FactorsReady, ProductOfLaid, TablesReady}
 use Rattle.ranked_theory.specs.Places.{row-in, at-next}
 
 -- a row of a table's rows, of width w, in a list of len numbers

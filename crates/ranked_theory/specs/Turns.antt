@@ -1,11 +1,10 @@
 -- One level of the recursion as its code goes: q controls, p below the top one, rows of w numbers, mid where the upper half starts.
-use mathlib.Core.Path.{_≡_, refl, sym, ap, ap₂, subst, _∙_}
+use mathlib.Core.Path.{_≡_, refl, sym, ap, subst, _∙_}
 use mathlib.Core.List.{List, _++_}
 use Prim.Native.Nat.{ℕ, zero, suc, _+_, _-_, _*_, _^_, _≤_, _<_, min}
-use native.Mathlib.Nat.{one-mul, le-of-eq}
 use native.Mathlib.Numerals.{sub-one}
 use native.Mathlib.Omega.{arith}
-use lib.ListN.{length, take, drop, length-append, length-drop}
+use lib.ListN.{length, take, drop, length-drop}
 use borrow.Rule.Slice.PartMut.{putMid}
 use Rattle.definitions.specs.Sets.{size}
 use Rattle.ranked_theory.specs.Rows.{Added, Subtracted, RowsStep, RowsReady, RowOfResidues, Multiplied}

@@ -27,11 +27,6 @@ abbrev pub numberOf : ModulusAnswer → ℕ
 numberOf (answer.Modulus k) = 0
 numberOf (answer.Refused w) = w
 
--- the modulus that an answer holds, and 0 if refused
-abbrev pub valueOf : ModulusAnswer → ℕ
-valueOf (answer.Modulus k) = k .value
-valueOf (answer.Refused w) = 0
-
 -- what is known of each modulus that `Modulus::new` made
 pub record Valid (modulus : Modulus) : Type 0 where
   pub lowest : lowestModulus ≤ modulus .value

@@ -31,11 +31,6 @@ pub record ReciprocalIs (m a : ℕ) (r : Reciprocal) : Type 0 where
   pub reciprocal : (u : ℕ) → r ≡ answer.Of u → IsReciprocal m a u
   pub common : (d : ℕ) → r ≡ answer.CommonDivisor d → IsCommonDivisor m a d
 
--- whether an answer names a common divisor
-abbrev pub isCommon : Reciprocal → Bool
-isCommon (answer.Of u) = false
-isCommon (answer.CommonDivisor d) = true
-
 -- the ranges of Euclid's remainders and of their coefficients
 pub record InRange (m : ℕ) (pair : Remainders) : Type 0 where
   pub falling : pair .smaller < pair .larger
@@ -97,8 +92,3 @@ common-shares {m} {a} {d} pos h =
     let l : d ≤ m = le-of-dvd pos (dvd-of-mod-eq-zero d (h .of-modulus)) in
     some-at (λ (k : ℕ). ltb 1 k && (eqb (m % k) 0 && eqb (a % k) 0)) d (suc m) (omega arith)
     (rw (lt-ltb 1 d (h .above), h .of-modulus, h .of-number))
-
--- the answer tells what the definition asks
-pub shares-divisor : {m a : ℕ} (r : Reciprocal) → 0 < m → ReciprocalIs m a r → sharesDivisor m a ≡ isCommon r
-shares-divisor (answer.Of u) pos h = reciprocal-shares (h .reciprocal u refl)
-shares-divisor (answer.CommonDivisor d) pos h = common-shares pos (h .common d refl)

@@ -2,8 +2,6 @@
 use mathlib.Core.Path.{_≡_, subst, sym}
 use mathlib.Core.List.{List}
 use Prim.Native.Nat.{ℕ, _^_, _<_, _≤_}
-use native.Mathlib.Nat.{lt-of-lt-of-le}
-use lib.Pow.{pow-mono}
 use lib.Count.{ones-le}
 use Rattle.definitions.specs.Sums.{at}
 use Rattle.definitions.specs.Sets.{size}
@@ -16,10 +14,6 @@ codeLimit = 2 ^ 24
 pub record SizeOfByte (byte r : ℕ) : Type 0 where
   pub same : r ≡ size byte
   pub few : r ≤ 8
-
--- the codes of the first n controls are within it
-pub code-within : (n : ℕ) {code : ℕ} → n ≤ 24 → code < 2 ^ n → code < codeLimit
-code-within n h l = lt-of-lt-of-le l (pow-mono h)
 
 -- a set of the first n controls has at most n
 pub size-le : (n : ℕ) {code r : ℕ} → code < 2 ^ n → r ≡ size code → r ≤ n

@@ -5,7 +5,6 @@
 --   passes-none, passes-more a loop over the controls
 --   pass-block               a loop over the blocks of 2 ^ suc i entries (with `filled` and `filled-block` of Lists)
 --   crossing, crossed        a loop over one block, and what it leaves
---   passes-halves            by recursion on halves instead of loops
 --   passes-lin               modulo m the passes are a linear transform
 use mathlib.Core.Path.{_≡_, refl, sym, ap, ap₂, _∙_, fun-ext}
 use mathlib.Core.Bool.{cond}
@@ -17,9 +16,9 @@ use lib.Arith.{digits-div}
 use lib.Dec.{eqb}
 use lib.ListN.{length, take, drop, set, take-append-drop, length-drop, List·getD-append}
 use lib.Pow.{pow-pos, pow-add}
-use lib.Seq.{length-take-le, getD-append-add, getD-take, getD-drop, set-append-left, set-getD}
+use lib.Seq.{length-take-le, getD-append-add, getD-take, getD-drop, set-append-left}
 use Rattle.definitions.specs.Sums.{tabulate, at}
-use Rattle.theory.specs.Lists.{length-tabulate, tabulate-ext, tabulate-append, tabulate-self, at-tabulate, filled, filled-none, filled-more, filled-all, length-filled, at-filled}
+use Rattle.theory.specs.Lists.{tabulate-ext, tabulate-append, tabulate-self, at-tabulate, filled, filled-none, filled-more, filled-all, length-filled, at-filled}
 use Rattle.theory.specs.Codes.{by-top}
 use Rattle.theory.specs.Semiring.{both}
 use Rattle.theory.specs.Halves.{Table, tab, tab-ext}
@@ -137,27 +136,6 @@ module _ (p q : ℕ → ℕ → ℕ) where
       (tabulate-ext (2 ^ i) _ _ (λ t h. ap₂ q (e t (omega arith)) (e (2 ^ i + t) (omega arith)) ∙ sym (pass-hi p q i a t h f)))
       ∙ sym (tabulate-append (2 ^ i) (2 ^ i) _) ∙ ap (λ (k : ℕ). tabulate k (λ t. pass p q i f (a * 2 ^ suc i + t))) (omega arith)
 
-  -- by recursion on halves: first each half, then the top control
-  pub passes-halves : (n : ℕ) (xs : List ℕ)
-      → tabulate (2 ^ suc n) (passes p q (suc n) (at xs))
-      ≡ crossed (2 ^ n) (tabulate (2 ^ n) (passes p q n (at (take (2 ^ n) xs))) ++ tabulate (2 ^ n) (passes p q n (at (drop (2 ^ n) xs))))
-  unfolding passes
-  passes-halves n xs = sym (pass-block n 0 (passes p q n (at xs)) _ (λ t h. by-top n t
-      (λ t. at (tabulate (2 ^ n) lo ++ tabulate (2 ^ n) hi) t ≡ passes p q n (at xs) (0 * 2 ^ suc n + t)) h
-      (λ k. List·getD-append (tabulate (2 ^ n) lo) _ 0 t (rw (length-tabulate (2 ^ n) lo) k) ∙ at-tabulate (2 ^ n) lo t k
-      ∙ passes-ext p q n n (omega arith) _ _ (λ S l. getD-take (2 ^ n) xs S 0 l) t k ∙ ap (passes p q n (at xs)) (omega arith))
-      (λ r k. ap (λ (x : ℕ). at (tabulate (2 ^ n) lo ++ tabulate (2 ^ n) hi) (x + r)) (sym (length-tabulate (2 ^ n) lo))
-      ∙ getD-append-add (tabulate (2 ^ n) lo) (tabulate (2 ^ n) hi) r 0 ∙ at-tabulate (2 ^ n) hi r k
-      ∙ passes-ext p q n n (omega arith) _ _ (λ S l. getD-drop (2 ^ n) xs S 0) r k ∙ sym (passes-above p q n n (omega arith) (at xs) r)
-      ∙ ap (passes p q n (at xs)) (omega arith)))
-      ∙ ap₂ tabulate refl (fun-ext (λ t. ap (pass p q n (passes p q n (at xs))) (omega arith))))
-    where
-      lo : ℕ → ℕ
-      lo = passes p q n (at (take (2 ^ n) xs))
-
-      hi : ℕ → ℕ
-      hi = passes p q n (at (drop (2 ^ n) xs))
-
 -- ---- on one block: a loop over its lower half
 
 set-append-right : (xs ys : List ℕ) (i v : ℕ) → set (xs ++ ys) (length xs + i) v ≡ xs ++ set ys i v
@@ -222,13 +200,6 @@ module _ (p q : ℕ → ℕ → ℕ) (half : ℕ) (xs : List ℕ) where
 -- a pass that leaves the lower half as it is
 abbrev pub lower : ℕ → ℕ → ℕ
 lower x y = x
-
-pub crossing-one : (q : ℕ → ℕ → ℕ) (half : ℕ) (xs : List ℕ) → length xs ≡ half + half → (t : ℕ) → t < half
-    → set (crossing lower q half xs t) (half + t) (q (at xs t) (at xs (half + t))) ≡ crossing lower q half xs (t + 1)
-crossing-one q half xs l t h =
-    ap (λ (u : List ℕ). set u (half + t) (q (at xs t) (at xs (half + t))))
-    (sym (set-getD (crossing lower q half xs t) t 0) ∙ ap (set (crossing lower q half xs t) t) (crossing-lower lower q half xs l t h))
-    ∙ crossing-more lower q half xs l t h
 
 -- ---- modulo m
 

@@ -1,13 +1,13 @@
 -- Remainders by m of sums, products and differences.
 --   mod-add, mod-mul       equal remainders give equal remainders
 --   mod-sub                what is left of y + x after y is taken away round through m
---   neg-add, minus-one     what a program subtracts from 0; m - 1 for -1
---   minus-times, negated   a difference, and what lacks to m, by m - 1
+--   minus-one              m - 1 for -1
+--   minus-times            a difference, by m - 1
 --   mod-cancel             equal summands cancel
---   half-power, half-residue    for odd m, the inverse of 2 ^ n
+--   half-power             for odd m, the inverse of 2 ^ n
 use mathlib.Core.Path.{_≡_, refl, sym, ap, ap₂, _∙_}
 use Prim.Native.Nat.{ℕ, zero, suc, _+_, _-_, _*_, _/_, _%_, _^_, _<_}
-use native.Mathlib.Nat.{add-mod, mod-add-mod, mod-lt, div-add-mod', mul-add-mod-self-right, mul-mod-left, zero-mod, mul-comm, add-zero, zero-add, pow-zero, pow-suc}
+use native.Mathlib.Nat.{add-mod, mod-add-mod, mod-lt, div-add-mod', mul-add-mod-self-right, mul-mod-left, zero-mod, mul-comm, zero-add, pow-zero, pow-suc}
 use native.Mathlib.Omega.{arith}
 
 pub mod-add : (m a b c d : ℕ) → a % m ≡ c % m → b % m ≡ d % m → (a + b) % m ≡ (c + d) % m
@@ -30,9 +30,6 @@ module _ (m : ℕ) (pos : 0 < m) where
   lacks x =
       let shape : m - x % m + x ≡ suc (x / m) * m = omega (arith, mod-lt x pos, div-add-mod' x m) in
       ap (λ (y : ℕ). y % m) shape ∙ mul-mod-left (suc (x / m)) m
-
-  pub neg-add : (x : ℕ) → ((m - x % m) % m + x) % m ≡ 0
-  neg-add x = mod-add-mod (m - x % m) m x ∙ lacks x
 
   pub mod-sub : (x y : ℕ) → ((y + x) % m + (m - y % m)) % m ≡ x % m
   mod-sub x y =
@@ -61,11 +58,6 @@ module _ (m : ℕ) (pos : 0 < m) where
       ∙ mod-add m ((m - 1) * x + x) y 0 y (minus-one x ∙ sym (zero-mod m)) refl ∙ ap (λ (k : ℕ). k % m) (zero-add y) in
       ap (λ (k : ℕ). (k + (m - x % m)) % m) (sym same) ∙ mod-sub z x
 
-  pub negated : (x : ℕ) → (m - x % m) % m ≡ (m - 1) * x % m
-  negated x =
-      let z : m - x % m ≡ 0 % m + (m - x % m) = omega (arith, zero-mod m) in
-      ap (λ (k : ℕ). k % m) z ∙ minus-times x 0 ∙ ap (λ (k : ℕ). k % m) (add-zero ((m - 1) * x))
-
   pub minus-one-squared : (m - 1) * (m - 1) % m ≡ 1 % m
   minus-one-squared =
       let c : ℕ = m - 1 in
@@ -84,7 +76,3 @@ half-power m (suc n) odd =
     rw (pow-suc h n, pow-suc 2 n)
     (ap (λ (k : ℕ). k % m) shape
     ∙ mod-mul m (h ^ n * 2 ^ n) (h * 2) 1 1 (half-power m n odd) (ap (λ (k : ℕ). k % m) two ∙ mul-add-mod-self-right 1 m 1))
-
--- the same of its remainder, which a program computes
-pub half-residue : (m n : ℕ) → m % 2 ≡ 1 → (m / 2 + 1) ^ n % m * 2 ^ n % m ≡ 1 % m
-half-residue m n odd = sym (mul-mod-l m ((m / 2 + 1) ^ n) (2 ^ n)) ∙ half-power m n odd

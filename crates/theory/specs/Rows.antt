@@ -1,6 +1,6 @@
 -- The rows by which composition gives inverse and logarithm. Nothing is divided by a factorial; m - 1 stands for -1.
 --   inverseRow m u     (-1)^k k! u^(k+1); inverseRow-first, inverseRow-next: how a program makes it
---   logarithmRow m     0, 1, -1, 2!, -3!, ..; logarithmRow-first, -second, -next
+--   logarithmRow m     0, 1, -1, 2!, -3!, ..
 --   row-inverts        where u a = 1, its binomial product with a, 1, 0, 0, .. is 1, 0, 0, .. modulo m
 use mathlib.Core.Path.{_≡_, refl, sym, ap, _∙_}
 use Prim.Native.Nat.{ℕ, zero, suc, _+_, _-_, _*_, _%_, _^_, _<_}
@@ -27,18 +27,6 @@ inverseRow-first m u = rw (pow-suc u 0, pow-zero (m - 1), pow-zero u) (omega ari
 pub inverseRow-next : (m u k : ℕ) → inverseRow m u (suc k) ≡ (m - 1) * (suc k * (u * inverseRow m u k))
 unfolding inverseRow factorial
 inverseRow-next m u k = rw (pow-suc (m - 1) k, pow-suc u (suc k)) (omega arith)
-
-pub logarithmRow-first : (m : ℕ) → logarithmRow m 0 ≡ 0
-unfolding logarithmRow
-logarithmRow-first m = refl
-
-pub logarithmRow-second : (m : ℕ) → logarithmRow m 1 ≡ 1
-unfolding logarithmRow
-logarithmRow-second m = inverseRow-first m 1
-
-pub logarithmRow-next : (m k : ℕ) → logarithmRow m (suc (suc k)) ≡ (m - 1) * (suc k * logarithmRow m (suc k))
-unfolding logarithmRow
-logarithmRow-next m k = inverseRow-next m 1 k ∙ omega arith
 
 module _ (m : ℕ) (pos : 0 < m) (a u : ℕ) (e : u * a % m ≡ 1 % m) where
   pub row-inverts : (k : ℕ) → conv (inverseRow m u) (linear a) k % m ≡ one k % m

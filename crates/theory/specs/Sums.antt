@@ -128,10 +128,6 @@ listSum-subsets h n S = listSum-keep h (λ L. inside L S) (tabulate (2 ^ n) (λ 
 
 -- ---- count
 
-pub count-last : (n : ℕ) (test : ℕ → Bool) → count (suc n) test ≡ count n test + cond (test n) 1 0
-unfolding count
-count-last n test = sum-last n _
-
 pub count-ext : (n : ℕ) (s t : ℕ → Bool) → ((i : ℕ) → i < n → s i ≡ t i) → count n s ≡ count n t
 unfolding count
 count-ext n s t h = sum-ext n _ _ (λ i k. ap (λ (b : Bool). cond b 1 0) (h i k))

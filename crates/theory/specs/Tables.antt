@@ -1,6 +1,7 @@
 -- The laws of set power series on tables, lists of 2 ^ n remainders.
 --   at-mod                                     what stands in a table of remainders, modulo m
 --   product-comm, product-assoc, product-unit, product-of-sum    the subset product
+--   sum-of-difference                          A - B + B = A
 --   exponential-of-sum                         exp (A + B) = exp A · exp B
 --   composition-of-product                     composition with a binomial product of rows
 --   product-residues, composition-residues     remainders taken early do not matter; composition-row: in the row neither
@@ -8,14 +9,14 @@
 --   composition-halves, exponential-halves     the halves of the result from those of the table
 use mathlib.Core.Path.{_≡_, refl, sym, ap, ap₂, _∙_}
 use mathlib.Core.List.{List, _++_}
-use Prim.Native.Nat.{ℕ, suc, _+_, _%_, _^_, _<_, _≤_}
-use native.Mathlib.Nat.{mod-mod, mod-eq-of-lt, zero-mod}
+use Prim.Native.Nat.{ℕ, suc, _+_, _%_, _^_, _<_, _≤_, _-_}
+use native.Mathlib.Nat.{mod-mod, mod-eq-of-lt, zero-mod, mod-add-mod, add-mod-right}
 use native.Mathlib.Omega.{arith}
 use lib.ListN.{length, take, drop}
 use lib.Pow.{pow-pos}
 use lib.Seq.{getD-take, getD-drop}
 use Rattle.definitions.specs.Sums.{tabulate, at}
-use Rattle.definitions.specs.Products.{residues, sumTable, subsetSum, subsetTable}
+use Rattle.definitions.specs.Products.{residues, sumTable, differenceTable, subsetSum, subsetTable}
 use Rattle.definitions.specs.Rows.{binomialSum, binomialRow}
 use Rattle.definitions.specs.Partitions.{compositionSum, compositionTable, exponentialTable, allOnes, unit}
 use Rattle.theory.specs.Lists.{at-tabulate, at-residues, residues-ext, residues-self, residues-halves}
@@ -57,6 +58,16 @@ module _ (n m : ℕ) where
       residues-ext n m _ _ (subset-mod n m _ _ (at A) (λ S. at B S + at C S) (λ S h. refl) (at-mod _))
       ∙ same (subset-plus n (at A) (at B) (at C))
       ∙ sym (residues-ext n m _ _ (λ S h. mod-add m _ _ _ _ (at-mod (subsetSum n (at A) (at B)) S h) (at-mod (subsetSum n (at A) (at C)) S h)))
+
+  -- what was taken off comes back
+  pub sum-of-difference : (A B : List ℕ) → length A ≡ 2 ^ n → ((S : ℕ) → S < 2 ^ n → at A S < m) → ((S : ℕ) → S < 2 ^ n → at B S < m)
+      → sumTable n m (differenceTable n m A B) B ≡ A
+  sum-of-difference A B l a b =
+      residues-ext n m _ (at A) (λ S h.
+      let back : at A S + (m - at B S) + at B S ≡ at A S + m = omega (arith, b S h) in
+      ap (λ (k : ℕ). (k + at B S) % m) (at-residues n m _ S h) ∙ mod-add-mod (at A S + (m - at B S)) m (at B S)
+      ∙ ap (λ (k : ℕ). k % m) back ∙ add-mod-right (at A S) m)
+      ∙ residues-self n m A l a
 
   pub exponential-of-sum : (A B : List ℕ) → exponentialTable n m (sumTable n m A B) ≡ subsetTable n m (exponentialTable n m A) (exponentialTable n m B)
   exponential-of-sum A B =

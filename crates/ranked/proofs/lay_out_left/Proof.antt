@@ -1,4 +1,3 @@
-use Prim.Native.Nat.{_≤_}
 use native.Mathlib.Omega.{arith}
 use Rattle.ranked_theory.specs.Tables.{laid-left}
 use borrow.Author.Needs.{needs}

@@ -1,6 +1,6 @@
 use borrow.Author.Needs.{needs}
 use mathlib.Core.Path.{refl}
-use Prim.Native.Nat.{ℕ, _+_, _-_}
+use Prim.Native.Nat.{_-_}
 use Rattle.definitions.specs.Sums.{at}
 use Rattle.ranked_theory.specs.Places.{Filling, filling-none, filling-more, filling-all}
 use Rattle.ranked.proofs.store_ranks.Statement.{statement}

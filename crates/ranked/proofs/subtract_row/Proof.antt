@@ -1,5 +1,5 @@
 use native.Mathlib.Omega.{arith}
-use mathlib.Core.Path.{_≡_, refl, ap, ap₂, sym, subst₂, _∙_}
+use mathlib.Core.Path.{refl, ap, sym, subst₂, _∙_}
 use Prim.Native.Nat.{ℕ, _+_, min}
 use Rattle.ranked_theory.specs.Rows.{RowReady}
 use Rattle.ranked_theory.specs.RowSteps as rows

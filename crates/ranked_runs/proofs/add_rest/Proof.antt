@@ -1,7 +1,7 @@
 use native.Mathlib.Omega.{arith}
 use Rattle.ranked_theory.specs.Rows.{plus}
 use Prim.Native.Nat.{_+_}
-use mathlib.Core.Path.{_≡_, sym, refl}
+use mathlib.Core.Path.{sym}
 use Rattle.ranked_theory.specs.Runs.{first-lower, first-upper, run-none, run-one, run-join, run-counted, later-ready, fewer-ready}
 use borrow.Author.Needs.{needs}
 use Rattle.ranked_runs.proofs.add_rest.Statement.{statement}

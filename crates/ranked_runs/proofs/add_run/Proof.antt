@@ -1,7 +1,7 @@
 use borrow.Author.Needs.{needs}
 use native.Mathlib.Omega.{arith}
 use Rattle.ranked_theory.specs.Rows.{plus}
-use Prim.Native.Nat.{ℕ, _+_, _-_}
+use Prim.Native.Nat.{_+_, _-_}
 use Rattle.ranked_theory.specs.Runs.{Running, running-none, running-more, later-ready, run-join, run-counted}
 use Rattle.ranked_runs.proofs.add_run.Statement.{statement}
 use Rattle.ranked_runs.proofs.add_run.Tie as tie

@@ -1,5 +1,3 @@
-use mathlib.Core.Path.{_≡_, sym, ap₂, _∙_}
-use Prim.Native.Nat.{ℕ, _+_, min}
 use native.Mathlib.Omega.{arith}
 use Rattle.definitions.specs.Products.{degree, degreeBound}
 use Rattle.theory.specs.Degree.{degree-most}

@@ -1,11 +1,10 @@
-use mathlib.Core.Path.{_≡_, refl, sym, ap, _∙_}
+use mathlib.Core.Path.{refl, sym, ap, _∙_}
 use Prim.Native.Nat.{ℕ}
-use native.Mathlib.Omega.{arith}
 use denote.Ref.{now}
 use Rattle.definitions.specs.Limits.{padLength}
 use Rattle.definitions.specs.Products.{subsetTable, degreeBound}
 use Rattle.definitions.specs.Refusals.{cleared}
-use Rattle.checks.specs.Accepted.{Product, product-accepted}
+use Rattle.checks.specs.Accepted.{product-accepted}
 use Rattle.checks.specs.Answers.{accepted, refused, word-kept, word-value}
 use Rattle.subset_product.proofs.Ends.{used-fits, used-long, tables-ready, clear-fits, pad-cleared}
 use borrow.Author.Needs.{needs}
