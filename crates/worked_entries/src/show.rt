@@ -1,41 +1,25 @@
 // A line of output for each case.
-use libc::STDOUT_FILENO;
-
-fn text(bytes: &[u8]) {
-    io::write_all(STDOUT_FILENO, bytes);
-}
-
-fn wide(x: u32) -> u64 {
-    x as u64
-}
-
-fn number(x: u32) {
-    io::print_decimal(STDOUT_FILENO, wide(x));
-}
-
-fn entries(list: &[u32]) {
-    let mut i = 0;
-    while i < list.len() {
-        if 0 < i {
-            text(b",");
-        }
-        number(list[i]);
-        i += 1;
-    }
-}
+use printing::entries;
+use printing::number;
+use printing::text;
 
 // The name of a case and the number that its call returned.
-pub fn outcome(name: &[u8], returned: u32) {
+fn outcome(name: &[u8], returned: u32) {
     text(name);
     text(b": ");
     number(returned);
 }
 
+fn bracketed(list: &[u32]) {
+    text(b" [");
+    entries(list);
+    text(b"]");
+}
+
 pub fn table(name: &[u8], returned: u32, result: &[u32]) {
     outcome(name, returned);
-    text(b" [");
-    entries(result);
-    text(b"]\n");
+    bracketed(result);
+    text(b"\n");
 }
 
 pub fn row(name: &[u8], returned: u32, result: &[u32]) {
@@ -43,4 +27,21 @@ pub fn row(name: &[u8], returned: u32, result: &[u32]) {
     text(b" (");
     entries(result);
     text(b")\n");
+}
+
+// Of a call with a pad, which was lent full of 9s.
+pub fn table_and_pad(name: &[u8], returned: u32, result: &[u32], pad: &[u32]) {
+    outcome(name, returned);
+    bracketed(result);
+    printing::pad(pad, 9);
+    text(b"\n");
+}
+
+pub fn product(name: &[u8], returned: u32, ceiling: u32, result: &[u32], pad: &[u32]) {
+    outcome(name, returned);
+    bracketed(result);
+    text(b", ceiling ");
+    number(ceiling);
+    printing::pad(pad, 9);
+    text(b"\n");
 }

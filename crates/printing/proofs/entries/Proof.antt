@@ -1,8 +1,8 @@
 use Prim.Native.Nat.{_≤_, _-_}
 use lib.ListN.{length}
 use borrow.Author.Needs.{needs}
-use Rattle.worked_entries.proofs.show.entries.Statement.{statement}
-use Rattle.worked_entries.proofs.show.entries.Tie as tie
+use Rattle.printing.proofs.entries.Statement.{statement}
+use Rattle.printing.proofs.entries.Tie as tie
 
 abbrev Inv-loop : tie.InvT-loop
 Inv-loop list i₀ t3 i = i ≤ length list
