@@ -1,7 +1,6 @@
 // Products of random tables, next to the sums over all pairs of sets.
 use crate::numbers::ceiling;
 use crate::numbers::fill;
-use crate::numbers::keep_small;
 use crate::pairs;
 use crate::report;
 use crate::report::LENT;
@@ -23,22 +22,72 @@ fn subset(
     a: &[u32],
     b: &[u32],
     result: &mut [u32],
-    expected: &mut [u32],
+    sums: &mut [u32],
     pad: &mut [u32],
 ) {
     let product = subset_product::subset_product(n, m, a, b, result, pad);
-    pairs::subset_table(a, b, m, expected);
+    pairs::subset_table(a, b, m, sums);
     report::subject(b"subset product", n, m);
-    report::entries(result, expected);
+    report::entries(result, sums);
     report::ceiling(product.ceiling, returned_ceiling(n, ceiling(a), ceiling(b)));
     report::outcome(product.number, pad);
+}
+
+fn union(
+    n: u32,
+    m: u32,
+    a: &[u32],
+    b: &[u32],
+    result: &mut [u32],
+    sums: &mut [u32],
+    pad: &mut [u32],
+) {
+    let returned = transforms::union_product(n, m, a, b, result, pad);
+    pairs::pair_table(a, b, true, m, sums);
+    report::comparison(b"union product", n, m, result, sums, returned, pad);
+}
+
+fn xor(
+    n: u32,
+    m: u32,
+    a: &[u32],
+    b: &[u32],
+    result: &mut [u32],
+    sums: &mut [u32],
+    pad: &mut [u32],
+) {
+    let returned = transforms::xor_product(n, m, a, b, result, pad);
+    pairs::pair_table(a, b, false, m, sums);
+    report::comparison(b"xor product", n, m, result, sums, returned, pad);
+}
+
+// Overlapping pairs where disjoint ones are due, to see that a difference is counted.
+fn overlapping(
+    n: u32,
+    m: u32,
+    a: &[u32],
+    b: &[u32],
+    result: &mut [u32],
+    sums: &mut [u32],
+    pad: &mut [u32],
+) {
+    let returned = transforms::union_product(n, m, a, b, result, pad);
+    pairs::subset_table(a, b, m, sums);
+    report::comparison(
+        b"union for subset product",
+        n,
+        m,
+        result,
+        sums,
+        returned,
+        pad,
+    );
 }
 
 enum Product {
     Subset,
     Union,
     Xor,
-    // Overlapping pairs where disjoint ones are due, to see that a difference is counted.
     Overlapping,
 }
 
@@ -49,34 +98,14 @@ fn compare(
     a: &[u32],
     b: &[u32],
     result: &mut [u32],
-    expected: &mut [u32],
+    sums: &mut [u32],
     pad: &mut [u32],
 ) {
     match product {
-        Product::Subset => subset(n, m, a, b, result, expected, pad),
-        Product::Union => {
-            let returned = transforms::union_product(n, m, a, b, result, pad);
-            pairs::pair_table(a, b, true, m, expected);
-            report::comparison(b"union product", n, m, result, expected, returned, pad);
-        }
-        Product::Xor => {
-            let returned = transforms::xor_product(n, m, a, b, result, pad);
-            pairs::pair_table(a, b, false, m, expected);
-            report::comparison(b"xor product", n, m, result, expected, returned, pad);
-        }
-        Product::Overlapping => {
-            let returned = transforms::union_product(n, m, a, b, result, pad);
-            pairs::subset_table(a, b, m, expected);
-            report::comparison(
-                b"union for subset product",
-                n,
-                m,
-                result,
-                expected,
-                returned,
-                pad,
-            );
-        }
+        Product::Subset => subset(n, m, a, b, result, sums, pad),
+        Product::Union => union(n, m, a, b, result, sums, pad),
+        Product::Xor => xor(n, m, a, b, result, sums, pad),
+        Product::Overlapping => overlapping(n, m, a, b, result, sums, pad),
     }
 }
 
@@ -89,14 +118,12 @@ fn random(
     a: &mut [u32],
     b: &mut [u32],
     result: &mut [u32],
-    expected: &mut [u32],
+    sums: &mut [u32],
     pad: &mut [u32],
 ) {
-    fill(a, 1, m);
-    fill(b, 2, m);
-    keep_small(a, most);
-    keep_small(b, most);
-    compare(product, n, m, a, b, result, expected, pad);
+    fill(a, most, 1, m);
+    fill(b, most, 2, m);
+    compare(product, n, m, a, b, result, sums, pad);
 }
 
 // For a number of controls: tables of 2^n entries, and three more in the pad than the call may use.

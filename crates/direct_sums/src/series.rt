@@ -14,6 +14,38 @@ enum Series {
     Inverse,
 }
 
+fn exponential(n: u32, m: u32, a: &[u32], result: &mut [u32], sums: &mut [u32], pad: &mut [u32]) {
+    let returned = series_calls::exponential(n, m, a, result, pad);
+    partitions::composition_table(a, &[1; 17], m, sums);
+    report::comparison(b"exponential", n, m, result, sums, returned, pad);
+}
+
+fn logarithm(n: u32, m: u32, e: &[u32], result: &mut [u32], sums: &mut [u32], pad: &mut [u32]) {
+    let returned = series_calls::logarithm(n, m, e, result, pad);
+    partitions::composition_table(result, &[1; 17], m, sums);
+    report::comparison(b"exponential of logarithm", n, m, sums, e, returned, pad);
+}
+
+fn composition(
+    n: u32,
+    m: u32,
+    a: &[u32],
+    f: &[u32],
+    result: &mut [u32],
+    sums: &mut [u32],
+    pad: &mut [u32],
+) {
+    let returned = series_calls::composition(n, m, a, f, result, pad);
+    partitions::composition_table(a, f, m, sums);
+    report::comparison(b"composition", n, m, result, sums, returned, pad);
+}
+
+fn inverse(n: u32, m: u32, a: &[u32], result: &mut [u32], sums: &mut [u32], pad: &mut [u32]) {
+    let returned = series_calls::inverse(n, m, a, result, pad);
+    pairs::subset_table(a, result, m, sums);
+    report::comparison(b"inverse times table", n, m, sums, &[1], returned, pad);
+}
+
 fn compare(
     call: Series,
     n: u32,
@@ -25,26 +57,10 @@ fn compare(
     pad: &mut [u32],
 ) {
     match call {
-        Series::Exponential => {
-            let returned = series_calls::exponential(n, m, a, result, pad);
-            partitions::composition_table(a, &[1; 17], m, sums);
-            report::comparison(b"exponential", n, m, result, sums, returned, pad);
-        }
-        Series::Logarithm => {
-            let returned = series_calls::logarithm(n, m, a, result, pad);
-            partitions::composition_table(result, &[1; 17], m, sums);
-            report::comparison(b"exponential of logarithm", n, m, sums, a, returned, pad);
-        }
-        Series::Composition => {
-            let returned = series_calls::composition(n, m, a, f, result, pad);
-            partitions::composition_table(a, f, m, sums);
-            report::comparison(b"composition", n, m, result, sums, returned, pad);
-        }
-        Series::Inverse => {
-            let returned = series_calls::inverse(n, m, a, result, pad);
-            pairs::subset_table(a, result, m, sums);
-            report::comparison(b"inverse times table", n, m, sums, &[1], returned, pad);
-        }
+        Series::Exponential => exponential(n, m, a, result, sums, pad),
+        Series::Logarithm => logarithm(n, m, a, result, sums, pad),
+        Series::Composition => composition(n, m, a, f, result, sums, pad),
+        Series::Inverse => inverse(n, m, a, result, sums, pad),
     }
 }
 
@@ -61,7 +77,7 @@ fn random(
     pad: &mut [u32],
 ) {
     fill_from(a, first, 3, m);
-    fill(f, 4, m);
+    fill(f, 16, 4, m);
     compare(call, n, m, a, f, result, sums, pad);
 }
 

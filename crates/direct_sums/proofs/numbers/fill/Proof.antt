@@ -6,10 +6,10 @@ use Rattle.direct_sums.proofs.numbers.fill.Statement.{statement}
 use Rattle.direct_sums.proofs.numbers.fill.Tie as tie
 
 abbrev Inv-loop : tie.InvT-loop
-Inv-loop a₀ seed m state₀ i₀ a state i = (i ≤ length a₀) × (length a ≡ length a₀)
+Inv-loop a₀ most seed m state₀ s₀ a state s = (s ≤ length a₀) × (length a ≡ length a₀)
 
 abbrev μ-loop : tie.MeasureT-loop
-μ-loop a₀ seed m state₀ i₀ a state i = length a₀ - i
+μ-loop a₀ most seed m state₀ s₀ a state s = length a₀ - s
 
 loop-holds : tie.Need-loop-holds Inv-loop μ-loop
 loop-holds c = search needs
@@ -20,14 +20,17 @@ times-requires c κs = search needs
 times-requires-2 : tie.Need-times-requires-2 Inv-loop μ-loop
 times-requires-2 c κs = search needs
 
+kept-requires : tie.Need-kept-requires Inv-loop μ-loop
+kept-requires c κs = search needs
+
 mul-a : tie.Need-mul-a Inv-loop μ-loop
 mul-a c = search needs
 
 slice-write-a : tie.Need-slice-write-a Inv-loop μ-loop
 slice-write-a c = search needs
 
-add-i : tie.Need-add-i Inv-loop μ-loop
-add-i c = search needs
+add-s : tie.Need-add-s Inv-loop μ-loop
+add-s c = search needs
 
 loop-less : tie.Need-loop-less Inv-loop μ-loop
 loop-less c = search needs
@@ -50,9 +53,10 @@ fill-spec =
     loop-holds
     times-requires
     times-requires-2
+    kept-requires
     mul-a
     slice-write-a
-    add-i
+    add-s
     loop-less
     loop-again
     same-length
