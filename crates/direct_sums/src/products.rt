@@ -183,20 +183,6 @@ fn with_9(product: Product, m: u32) {
     );
 }
 
-fn with_10(product: Product, m: u32) {
-    random(
-        product,
-        10,
-        m,
-        10,
-        &mut [0; 1024],
-        &mut [0; 1024],
-        &mut [LENT; 1024],
-        &mut [0; 1024],
-        &mut [LENT; 24579],
-    );
-}
-
 fn with_12(product: Product, m: u32, most: u32) {
     random(
         product,
@@ -224,14 +210,14 @@ fn union_products(m: u32) {
     with_0(Product::Union, m);
     with_1(Product::Union, m);
     with_5(Product::Union, m);
-    with_10(Product::Union, m);
+    with_12(Product::Union, m, 12);
 }
 
 fn xor_products(m: u32) {
     with_0(Product::Xor, m);
     with_1(Product::Xor, m);
     with_5(Product::Xor, m);
-    with_10(Product::Xor, m);
+    with_12(Product::Xor, m, 12);
 }
 
 fn subset_moduli() {
