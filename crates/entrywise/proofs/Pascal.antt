@@ -91,8 +91,8 @@ pub holds-none : {acc : Accumulator} (modulus : Modulus) (term : ℕ → ℕ) �
 unfolding sum
 holds-none modulus term h = holds-start modulus h
 
-pub one-more : {acc r : Accumulator} {x y : ℕ} (modulus : Modulus) (term : ℕ → ℕ) {j : ℕ} → Holds modulus (sum j term) acc →
-    Added modulus acc x y r → x * y ≡ term j → Holds modulus (sum (j + 1) term) r
+pub one-more : {acc r : Accumulator} {x : ℕ} (modulus : Modulus) (term : ℕ → ℕ) {j : ℕ} → Holds modulus (sum j term) acc →
+    Added modulus acc x r → x ≡ term j → Holds modulus (sum (j + 1) term) r
 one-more modulus term {j} h add e =
     rw (add-one j, sum-last j term, ← e) (holds-added h add)
 

@@ -1,29 +1,37 @@
-// Runs of numbers in rows: one run added to another modulo m, or subtracted from it. All numbers of a piece are read before
-// one of them is stored, so that the machine works the piece at once.
+// Runs of numbers in rows: one run added to another modulo m, or subtracted from it. Four numbers are read before one of them is
+// stored, so that the machine works them at once; where the last four overlap the four before them, both store the same there.
 ghost use Prim.Native.Nat.{_+_, _<_, _≤_};
 ghost use lib.ListN.{length};
 ghost use Rattle.residues.specs.Moduli.{Valid};
-ghost use Rattle.ranked_theory.specs.Rows.{plus, minus, stored, Run, RunReady};
+ghost use Rattle.ranked_theory.specs.Rows.{plus, minus, stored, ofFour, Placed, Run, RunReady, Taken};
 use residues::Modulus;
 
-// rows[hi + i] += rows[lo + i] for i < 2, and for i < 4.
-fn add_two(modulus: Modulus, lo: usize, hi: usize, rows: &mut [u32])
-    requires { ⌜ Valid modulus ⌝ }
-    requires { ⌜ RunReady (modulus .value) lo hi 2 (now rows) ⌝ }
-    ensures { λ _. ⌜ Run (plus (modulus .value)) lo hi 2 (now (rows .entry)) (now (rows .exit)) ⌝ }
-{
-    let lo1 = lo + 1;
-    let hi1 = hi + 1;
-    let x0 = modulus.add(rows[hi], rows[lo]);
-    let x1 = modulus.add(rows[hi1], rows[lo1]);
-    rows[hi] = x0;
-    rows[hi1] = x1;
+// Four numbers that follow each other.
+struct Four {
+    first: u32,
+    second: u32,
+    third: u32,
+    fourth: u32,
 }
 
-fn add_four(modulus: Modulus, lo: usize, hi: usize, rows: &mut [u32])
+fn store_four(at: usize, values: Four, rows: &mut [u32])
+    requires { ⌜ at + 4 ≤ length (now rows) ⌝ }
+    ensures { λ _. ⌜ Placed (ofFour (values .first) (values .second) (values .third) (values .fourth)) at 4 (now (rows .entry)) (now (rows .exit)) ⌝ }
+{
+    let at1 = at + 1;
+    let at2 = at + 2;
+    let at3 = at + 3;
+    rows[at] = values.first;
+    rows[at1] = values.second;
+    rows[at2] = values.third;
+    rows[at3] = values.fourth;
+}
+
+// What four numbers of a run become when it is added.
+fn sums(modulus: Modulus, lo: usize, hi: usize, rows: &[u32]) -> Four
     requires { ⌜ Valid modulus ⌝ }
     requires { ⌜ RunReady (modulus .value) lo hi 4 (now rows) ⌝ }
-    ensures { λ _. ⌜ Run (plus (modulus .value)) lo hi 4 (now (rows .entry)) (now (rows .exit)) ⌝ }
+    ensures { λ r. ⌜ Taken (plus (modulus .value)) lo hi (now (rows .entry)) (r .first) (r .second) (r .third) (r .fourth) ⌝ }
 {
     let lo1 = lo + 1;
     let lo2 = lo + 2;
@@ -31,37 +39,56 @@ fn add_four(modulus: Modulus, lo: usize, hi: usize, rows: &mut [u32])
     let hi1 = hi + 1;
     let hi2 = hi + 2;
     let hi3 = hi + 3;
-    let x0 = modulus.add(rows[hi], rows[lo]);
-    let x1 = modulus.add(rows[hi1], rows[lo1]);
-    let x2 = modulus.add(rows[hi2], rows[lo2]);
-    let x3 = modulus.add(rows[hi3], rows[lo3]);
-    rows[hi] = x0;
-    rows[hi1] = x1;
-    rows[hi2] = x2;
-    rows[hi3] = x3;
+    Four {
+        first: modulus.add(rows[hi], rows[lo]),
+        second: modulus.add(rows[hi1], rows[lo1]),
+        third: modulus.add(rows[hi2], rows[lo2]),
+        fourth: modulus.add(rows[hi3], rows[lo3]),
+    }
 }
 
-// The rest of a run that is worked four at a time.
-fn add_rest(modulus: Modulus, lo: usize, hi: usize, count: usize, rows: &mut [u32])
+// A run of less than four.
+fn add_few(modulus: Modulus, lo: usize, hi: usize, count: usize, rows: &mut [u32])
     requires { ⌜ Valid modulus ⌝ }
     requires { ⌜ RunReady (modulus .value) lo hi count (now rows) ⌝ }
-    requires { ⌜ count < 4 ⌝ }
     ensures { λ _. ⌜ Run (plus (modulus .value)) lo hi count (now (rows .entry)) (now (rows .exit)) ⌝ }
 {
-    if count == 0 {
-        return;
+    let mut i = 0;
+    while i < count {
+        let low = lo + i;
+        let high = hi + i;
+        rows[high] = modulus.add(rows[high], rows[low]);
+        i += 1;
     }
-    if count == 1 {
-        rows[hi] = modulus.add(rows[hi], rows[lo]);
-        return;
+}
+
+// A run of four to eight: its first four and its last four.
+fn add_ends(modulus: Modulus, lo: usize, hi: usize, last: usize, rows: &mut [u32])
+    requires { ⌜ Valid modulus ⌝ }
+    requires { ⌜ RunReady (modulus .value) lo hi (last + 4) (now rows) ⌝ }
+    requires { ⌜ last ≤ 4 ⌝ }
+    ensures { λ _. ⌜ Run (plus (modulus .value)) lo hi (last + 4) (now (rows .entry)) (now (rows .exit)) ⌝ }
+{
+    let front = sums(modulus, lo, hi, rows);
+    let back = sums(modulus, lo + last, hi + last, rows);
+    store_four(hi, front, rows);
+    store_four(hi + last, back, rows);
+}
+
+// A run of four or more. Its last four are worked first and stored last, so that the pieces before them may reach into them.
+fn add_long(modulus: Modulus, lo: usize, hi: usize, last: usize, rows: &mut [u32])
+    requires { ⌜ Valid modulus ⌝ }
+    requires { ⌜ RunReady (modulus .value) lo hi (last + 4) (now rows) ⌝ }
+    ensures { λ _. ⌜ Run (plus (modulus .value)) lo hi (last + 4) (now (rows .entry)) (now (rows .exit)) ⌝ }
+{
+    let back = sums(modulus, lo + last, hi + last, rows);
+    let mut i = 0;
+    while i < last {
+        let next = sums(modulus, lo + i, hi + i, rows);
+        store_four(hi + i, next, rows);
+        i += 4;
     }
-    add_two(modulus, lo, hi, rows);
-    if count == 2 {
-        return;
-    }
-    let lo2 = lo + 2;
-    let hi2 = hi + 2;
-    rows[hi2] = modulus.add(rows[hi2], rows[lo2]);
+    store_four(hi + last, back, rows);
 }
 
 // rows[hi + i] += rows[lo + i] for i < count.
@@ -70,32 +97,23 @@ pub fn add_run(modulus: Modulus, lo: usize, hi: usize, count: usize, rows: &mut 
     requires { ⌜ RunReady (modulus .value) lo hi count (now rows) ⌝ }
     ensures { λ _. ⌜ Run (plus (modulus .value)) lo hi count (now (rows .entry)) (now (rows .exit)) ⌝ }
 {
-    let mut i = 0;
-    while 4 <= count - i {
-        add_four(modulus, lo + i, hi + i, rows);
-        i += 4;
+    if count < 4 {
+        add_few(modulus, lo, hi, count, rows);
+    } else {
+        let last = count - 4;
+        if last <= 4 {
+            add_ends(modulus, lo, hi, last, rows);
+        } else {
+            add_long(modulus, lo, hi, last, rows);
+        }
     }
-    add_rest(modulus, lo + i, hi + i, count - i, rows);
 }
 
-// rows[hi + i] -= rows[lo + i] for i < 2, and for i < 4.
-fn subtract_two(modulus: Modulus, lo: usize, hi: usize, rows: &mut [u32])
-    requires { ⌜ Valid modulus ⌝ }
-    requires { ⌜ RunReady (modulus .value) lo hi 2 (now rows) ⌝ }
-    ensures { λ _. ⌜ Run (minus (modulus .value)) lo hi 2 (now (rows .entry)) (now (rows .exit)) ⌝ }
-{
-    let lo1 = lo + 1;
-    let hi1 = hi + 1;
-    let x0 = modulus.subtract(rows[hi], rows[lo]);
-    let x1 = modulus.subtract(rows[hi1], rows[lo1]);
-    rows[hi] = x0;
-    rows[hi1] = x1;
-}
-
-fn subtract_four(modulus: Modulus, lo: usize, hi: usize, rows: &mut [u32])
+// What four numbers of a run become when it is subtracted.
+fn differences(modulus: Modulus, lo: usize, hi: usize, rows: &[u32]) -> Four
     requires { ⌜ Valid modulus ⌝ }
     requires { ⌜ RunReady (modulus .value) lo hi 4 (now rows) ⌝ }
-    ensures { λ _. ⌜ Run (minus (modulus .value)) lo hi 4 (now (rows .entry)) (now (rows .exit)) ⌝ }
+    ensures { λ r. ⌜ Taken (minus (modulus .value)) lo hi (now (rows .entry)) (r .first) (r .second) (r .third) (r .fourth) ⌝ }
 {
     let lo1 = lo + 1;
     let lo2 = lo + 2;
@@ -103,37 +121,56 @@ fn subtract_four(modulus: Modulus, lo: usize, hi: usize, rows: &mut [u32])
     let hi1 = hi + 1;
     let hi2 = hi + 2;
     let hi3 = hi + 3;
-    let x0 = modulus.subtract(rows[hi], rows[lo]);
-    let x1 = modulus.subtract(rows[hi1], rows[lo1]);
-    let x2 = modulus.subtract(rows[hi2], rows[lo2]);
-    let x3 = modulus.subtract(rows[hi3], rows[lo3]);
-    rows[hi] = x0;
-    rows[hi1] = x1;
-    rows[hi2] = x2;
-    rows[hi3] = x3;
+    Four {
+        first: modulus.subtract(rows[hi], rows[lo]),
+        second: modulus.subtract(rows[hi1], rows[lo1]),
+        third: modulus.subtract(rows[hi2], rows[lo2]),
+        fourth: modulus.subtract(rows[hi3], rows[lo3]),
+    }
 }
 
-// The rest of a run that is worked four at a time.
-fn subtract_rest(modulus: Modulus, lo: usize, hi: usize, count: usize, rows: &mut [u32])
+// A run of less than four.
+fn subtract_few(modulus: Modulus, lo: usize, hi: usize, count: usize, rows: &mut [u32])
     requires { ⌜ Valid modulus ⌝ }
     requires { ⌜ RunReady (modulus .value) lo hi count (now rows) ⌝ }
-    requires { ⌜ count < 4 ⌝ }
     ensures { λ _. ⌜ Run (minus (modulus .value)) lo hi count (now (rows .entry)) (now (rows .exit)) ⌝ }
 {
-    if count == 0 {
-        return;
+    let mut i = 0;
+    while i < count {
+        let low = lo + i;
+        let high = hi + i;
+        rows[high] = modulus.subtract(rows[high], rows[low]);
+        i += 1;
     }
-    if count == 1 {
-        rows[hi] = modulus.subtract(rows[hi], rows[lo]);
-        return;
+}
+
+// A run of four to eight: its first four and its last four.
+fn subtract_ends(modulus: Modulus, lo: usize, hi: usize, last: usize, rows: &mut [u32])
+    requires { ⌜ Valid modulus ⌝ }
+    requires { ⌜ RunReady (modulus .value) lo hi (last + 4) (now rows) ⌝ }
+    requires { ⌜ last ≤ 4 ⌝ }
+    ensures { λ _. ⌜ Run (minus (modulus .value)) lo hi (last + 4) (now (rows .entry)) (now (rows .exit)) ⌝ }
+{
+    let front = differences(modulus, lo, hi, rows);
+    let back = differences(modulus, lo + last, hi + last, rows);
+    store_four(hi, front, rows);
+    store_four(hi + last, back, rows);
+}
+
+// A run of four or more. Its last four are worked first and stored last, so that the pieces before them may reach into them.
+fn subtract_long(modulus: Modulus, lo: usize, hi: usize, last: usize, rows: &mut [u32])
+    requires { ⌜ Valid modulus ⌝ }
+    requires { ⌜ RunReady (modulus .value) lo hi (last + 4) (now rows) ⌝ }
+    ensures { λ _. ⌜ Run (minus (modulus .value)) lo hi (last + 4) (now (rows .entry)) (now (rows .exit)) ⌝ }
+{
+    let back = differences(modulus, lo + last, hi + last, rows);
+    let mut i = 0;
+    while i < last {
+        let next = differences(modulus, lo + i, hi + i, rows);
+        store_four(hi + i, next, rows);
+        i += 4;
     }
-    subtract_two(modulus, lo, hi, rows);
-    if count == 2 {
-        return;
-    }
-    let lo2 = lo + 2;
-    let hi2 = hi + 2;
-    rows[hi2] = modulus.subtract(rows[hi2], rows[lo2]);
+    store_four(hi + last, back, rows);
 }
 
 // rows[hi + i] -= rows[lo + i] for i < count.
@@ -142,12 +179,16 @@ pub fn subtract_run(modulus: Modulus, lo: usize, hi: usize, count: usize, rows: 
     requires { ⌜ RunReady (modulus .value) lo hi count (now rows) ⌝ }
     ensures { λ _. ⌜ Run (minus (modulus .value)) lo hi count (now (rows .entry)) (now (rows .exit)) ⌝ }
 {
-    let mut i = 0;
-    while 4 <= count - i {
-        subtract_four(modulus, lo + i, hi + i, rows);
-        i += 4;
+    if count < 4 {
+        subtract_few(modulus, lo, hi, count, rows);
+    } else {
+        let last = count - 4;
+        if last <= 4 {
+            subtract_ends(modulus, lo, hi, last, rows);
+        } else {
+            subtract_long(modulus, lo, hi, last, rows);
+        }
     }
-    subtract_rest(modulus, lo + i, hi + i, count - i, rows);
 }
 
 // rows[hi] and the number after it become rows[lo] and the one after that.

@@ -2,7 +2,7 @@
 use mathlib.Core.Path.{_≡_}
 use mathlib.Core.List.{List}
 use mathlib.Core.Logic.{_⊎_}
-use Prim.Native.Nat.{ℕ, _+_, _-_, _*_, _%_, _^_, _≤_, _<_, min}
+use Prim.Native.Nat.{ℕ, zero, suc, _+_, _-_, _*_, _%_, _^_, _≤_, _<_, min}
 use lib.ListN.{length}
 use Rattle.definitions.specs.Sums.{sum, at}
 
@@ -26,6 +26,20 @@ pub record Placed (v : ℕ → ℕ) (base count : ℕ) (xs ys : List ℕ) : Type
 -- entry hi + i takes op of itself and of entry lo + i, for i < count
 abbrev pub Run : (ℕ → ℕ → ℕ) → ℕ → ℕ → ℕ → List ℕ → List ℕ → Type 0
 Run op lo hi count xs ys = Placed (λ i. op (at xs (hi + i)) (at xs (lo + i))) hi count xs ys
+
+-- four numbers of a run as it makes them: op of entry hi + i and of entry lo + i
+pub record Taken (op : ℕ → ℕ → ℕ) (lo hi : ℕ) (xs : List ℕ) (a b c d : ℕ) : Type 0 where
+  pub first : a ≡ op (at xs hi) (at xs lo)
+  pub second : b ≡ op (at xs (hi + 1)) (at xs (lo + 1))
+  pub third : c ≡ op (at xs (hi + 2)) (at xs (lo + 2))
+  pub fourth : d ≡ op (at xs (hi + 3)) (at xs (lo + 3))
+
+-- one of four numbers, by its place among them
+abbrev pub ofFour : ℕ → ℕ → ℕ → ℕ → ℕ → ℕ
+ofFour a b c d zero = a
+ofFour a b c d (suc zero) = b
+ofFour a b c d (suc (suc zero)) = c
+ofFour a b c d (suc (suc (suc i))) = d
 
 pub record RunReady (m lo hi count : ℕ) (xs : List ℕ) : Type 0 where
   pub apart : lo + count ≤ hi

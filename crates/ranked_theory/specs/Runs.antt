@@ -1,18 +1,19 @@
--- Runs in pieces: a run of one, two or four numbers as it is stored, and a run after another.
---   run-one, run-two, run-four        what stores of the right values make
+-- Runs in pieces: a run of one or two numbers as it is stored, four numbers, and a run after another.
+--   run-one, run-two, placed-four     what stores of the right values make
 --   first-lower, first-upper          the numbers that a run reads first are residues
 --   run-join, later-ready             one run and the next; Running is the invariant of a loop over such pieces
+--   run-over                          a run, and its last four numbers over it
 use mathlib.Core.Path.{_≡_, refl, sym, ap₂, subst, _∙_}
 use mathlib.Core.List.{List}
 use mathlib.Core.Logic.{inl, inr, ⊎-elim}
-use Prim.Native.Nat.{ℕ, _+_, _-_, _≤_, _<_}
-use native.Mathlib.Nat.{add-zero, add-assoc}
+use Prim.Native.Nat.{ℕ, zero, suc, _+_, _-_, _≤_, _<_}
+use native.Mathlib.Nat.{add-zero, add-assoc, le-antisymm}
 use native.Mathlib.Omega.{arith}
 use lib.ListN.{length, set, length-set}
 use Rattle.definitions.specs.Sums.{at}
 use Rattle.theory.specs.Tests.{below-or}
-use Rattle.ranked_theory.specs.Rows.{Run, RunReady}
-use Rattle.ranked_theory.specs.Places.{placed-none, placed-more}
+use Rattle.ranked_theory.specs.Rows.{Placed, Run, RunReady, Taken, ofFour}
+use Rattle.ranked_theory.specs.Places.{placed-none, placed-more, placed-as}
 
 -- ---- the first number
 
@@ -37,14 +38,7 @@ module _ (op : ℕ → ℕ → ℕ) (lo hi : ℕ) (xs : List ℕ) where
       → Run op lo hi 2 xs (set (set xs hi x) (hi + 1) y)
   run-two x y l ex ey = placed-more (run-one x (omega arith) ex) y (omega (arith, length-set xs hi x)) ey
 
-  pub run-four : (x y z t : ℕ) → hi + 4 ≤ length xs → x ≡ op (at xs hi) (at xs lo) → y ≡ op (at xs (hi + 1)) (at xs (lo + 1))
-      → z ≡ op (at xs (hi + 2)) (at xs (lo + 2)) → t ≡ op (at xs (hi + 3)) (at xs (lo + 3))
-      → Run op lo hi 4 xs (set (set (set (set xs hi x) (hi + 1) y) (hi + 2) z) (hi + 3) t)
-  run-four x y z t l ex ey ez et =
-      let two = set (set xs hi x) (hi + 1) y in
-      let n₂ = length-set (set xs hi x) (hi + 1) y ∙ length-set xs hi x in
-      let n₃ = length-set two (hi + 2) z in
-      placed-more (placed-more (run-two x y (omega arith) ex ey) z (omega arith) ez) t (omega arith) et
+-- ---- four numbers
 
 -- a store of two and of four is within the list
 pub stores-within : (hi x y z : ℕ) (xs : List ℕ) → hi + 4 ≤ length xs
@@ -54,6 +48,26 @@ stores-within hi x y z xs l =
     let n₂ = length-set (set xs hi x) (hi + 1) y in
     let n₃ = length-set (set (set xs hi x) (hi + 1) y) (hi + 2) z in
     (omega arith, omega arith, omega arith)
+
+pub placed-four : (a b c d hi : ℕ) (xs : List ℕ) → hi + 4 ≤ length xs
+    → Placed (ofFour a b c d) hi 4 xs (set (set (set (set xs hi a) (hi + 1) b) (hi + 2) c) (hi + 3) d)
+placed-four a b c d hi xs l =
+    let n = stores-within hi a b c xs l in
+    let none = placed-none (ofFour a b c d) hi xs in
+    let one = subst (λ (k : ℕ). Placed (ofFour a b c d) hi 1 xs (set xs k a)) (add-zero hi) (placed-more none a (omega arith) refl) in
+    placed-more (placed-more (placed-more one b (n .0) refl) c (n .1) refl) d (n .2) refl
+
+module _ (op : ℕ → ℕ → ℕ) (lo hi : ℕ) (xs : List ℕ) (a b c d : ℕ) (t : Taken op lo hi xs a b c d) where
+  taken-at : (i : ℕ) → i < 4 → ofFour a b c d i ≡ op (at xs (hi + i)) (at xs (lo + i))
+  taken-at zero l = t .first ∙ sym (ap₂ (λ (j k : ℕ). op (at xs j) (at xs k)) (add-zero hi) (add-zero lo))
+  taken-at (suc zero) l = t .second
+  taken-at (suc (suc zero)) l = t .third
+  taken-at (suc (suc (suc zero))) l = t .fourth
+  taken-at (suc (suc (suc (suc i)))) l = let no : ⊥ = omega arith in absurd no
+
+  -- four numbers of a run over xs, stored in ys
+  pub taken-placed : (ys zs : List ℕ) → Placed (ofFour a b c d) hi 4 ys zs → Placed (λ i. op (at xs (hi + i)) (at xs (lo + i))) hi 4 ys zs
+  taken-placed ys zs h = placed-as h refl taken-at
 
 -- ---- one run and the next
 
@@ -91,7 +105,7 @@ later-ready op m lo hi i c count xs ys h r same fits =
           (subst (λ (x : ℕ). x < m) (sym (r .outside (hi + (i + j)) (inr (omega arith)))) (h .upper (i + j) (omega arith)));
     }
 
--- a run of fewer numbers
+-- a run of fewer numbers, and a piece of a run
 pub fewer-ready : (m lo hi count c : ℕ) (xs : List ℕ) → RunReady m lo hi count xs → c ≤ count → RunReady m lo hi c xs
 fewer-ready m lo hi count c xs h l =
     record {
@@ -99,6 +113,34 @@ fewer-ready m lo hi count c xs h l =
       long = omega (arith, h .long);
       lower = λ i k. h .lower i (omega arith);
       upper = λ i k. h .upper i (omega arith);
+    }
+
+pub piece-ready : (m lo hi i c count : ℕ) (xs : List ℕ) → RunReady m lo hi count xs → i + c ≤ count → RunReady m (lo + i) (hi + i) c xs
+piece-ready m lo hi i c count xs h fits =
+    record {
+      apart = omega (arith, h .apart);
+      long = omega (arith, h .long);
+      lower = λ j l. subst (λ (k : ℕ). at xs k < m) (sym (add-assoc lo i j)) (h .lower (i + j) (omega arith));
+      upper = λ j l. subst (λ (k : ℕ). at xs k < m) (sym (add-assoc hi i j)) (h .upper (i + j) (omega arith));
+    }
+
+-- the first i of a run, and then its last four as they are made of xs: they may overlap
+pub run-over : (op : ℕ → ℕ → ℕ) (lo hi i last : ℕ) (xs ys zs : List ℕ) → Run op lo hi i xs ys
+    → Placed (λ j. op (at xs (hi + last + j)) (at xs (lo + last + j))) (hi + last) 4 ys zs → last ≤ i → i ≤ last + 4 → Run op lo hi (last + 4) xs zs
+run-over op lo hi i last xs ys zs r s from to =
+    record {
+      inside = λ j l.
+          ⊎-elim
+          (λ (lt : j < last). s .outside (hi + j) (inl (omega arith)) ∙ r .inside j (omega arith))
+          (λ (ge : last ≤ j).
+          let p : hi + last + (j - last) ≡ hi + j = omega arith in
+          let q : lo + last + (j - last) ≡ lo + j = omega arith in
+          subst (λ (k : ℕ). at zs k ≡ op (at xs (hi + j)) (at xs (lo + j))) p
+          (s .inside (j - last) (omega arith) ∙ ap₂ (λ (a b : ℕ). op (at xs a) (at xs b)) p q))
+          (below-or j last);
+      outside = λ j o.
+          s .outside j (⊎-elim (λ l. inl (omega arith)) (λ l. inr (omega arith)) o)
+          ∙ r .outside j (⊎-elim (λ l. inl l) (λ l. inr (omega arith)) o);
     }
 
 -- the invariant of a loop over pieces of a run
@@ -118,6 +160,9 @@ running-more op m lo hi count xs ys zs i c ready h run same fits =
       long = same ∙ h .long;
       done = run-join op lo hi i c xs ys zs (h .done) run (omega (arith, ready .apart));
     }
+
+pub running-all : {op : ℕ → ℕ → ℕ} {lo hi count : ℕ} {xs ys : List ℕ} {i : ℕ} → Running op lo hi count xs ys i → count ≤ i → Run op lo hi count xs ys
+running-all {op} {lo} {hi} {count} {xs} {ys} {i} h l = subst (λ (k : ℕ). Run op lo hi k xs ys) (le-antisymm (h .turn) l) (h .done)
 
 pub run-counted : (op : ℕ → ℕ → ℕ) (lo hi c count : ℕ) (xs ys : List ℕ) → Run op lo hi c xs ys → c ≡ count → Run op lo hi count xs ys
 run-counted op lo hi c count xs ys r e = subst (λ (k : ℕ). Run op lo hi k xs ys) e r

@@ -8,8 +8,8 @@ use mir.Syntax.{w32}
 use Rattle.definitions.specs.Limits.{largestModulus}
 use Rattle.residues.specs.Moduli.{Below, Residue}
 
-pub reduced : {x m : ℕ} → x < m → Residue m x x
-reduced l = record { same = sym (mod-eq-of-lt l); below = l }
+pub reduced : (x m : ℕ) {r : ℕ} → r ≡ x → r < m → Residue m x r
+reduced x m e l = record { same = sym (mod-eq-of-lt l) ∙ ap (λ (k : ℕ). k % m) e; below = l }
 
 -- x - m for x
 pub once : (x m : ℕ) {r : ℕ} → m ≤ x → r ≡ x - m → r < m → Residue m x r
@@ -18,7 +18,8 @@ once x m h e l = record { same = sym (mod-eq-of-lt l) ∙ ap (λ (k : ℕ). k % 
 pub fits-residue : (x : ℕ) {m : ℕ} → 0 < m → m ≤ largestModulus → Fits w32 (x % m)
 fits-residue x {m} pos top = let h : x % m < m = mod-lt x pos in record { fits = omega arith }
 
-pub product-below : {m a b : ℕ} → Below m a b → m ≤ largestModulus → a * b < 2 ^ 62
+-- two of these and what an accumulator holds are below its limit
+pub product-below : {m a b : ℕ} → Below m a b → m ≤ largestModulus → a * b < 2 ^ 62 - 2 ^ 32
 product-below {m} {a} {b} h top =
     let x : a ≤ 2147483646 = omega arith in
     let y : b ≤ 2147483646 = omega arith in

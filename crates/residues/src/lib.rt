@@ -1,10 +1,12 @@
 // Residues: numbers modulo m. The modulus with its limits, sum, difference and product of two residues, sums of products
 // that are divided once, and reciprocals. What bounds the numbers inside is seen in this crate alone.
 ghost use mathlib.Core.Path.{_≡_};
-ghost use Prim.Native.Nat.{_+_, _-_, _*_, _<_};
+ghost use Prim.Native.Nat.{_+_, _-_, _*_, _<_, _≤_};
 ghost use Rattle.residues.specs.Moduli.{modulusOf, Valid, Below, Residue};
 ghost use Rattle.residues.specs.Accumulated.{held, Sound, Started, Added, foldLimit, Folded};
 ghost use Rattle.residues.specs.Reciprocals.{ReciprocalIs, InRange, Next};
+use std::num::wrapping_add_u32;
+use std::num::wrapping_sub_u32;
 
 // Only `Modulus::new` makes one.
 pub struct Modulus {
@@ -76,14 +78,28 @@ impl Modulus {
         (x % m) as u32
     }
 
-    // The sum is compared before it is formed, so that it fits under every modulus of 32 bits.
+    // a - b, for b up to the modulus: the modulus is added where the difference went below 0. No branch is left, and it holds
+    // under every modulus of 32 bits, since going round through 2 to the 32 and back loses nothing.
+    fn less(self, a: u32, b: u32) -> u32
+        requires { ⌜ a < self .value ⌝ }
+        requires { ⌜ b ≤ self .value ⌝ }
+        ensures { λ r. ⌜ Residue (self .value) (a + (self .value - b)) r ⌝ }
+    {
+        let left = wrapping_sub_u32(a, b);
+        if a < b {
+            wrapping_add_u32(left, self.value)
+        } else {
+            left
+        }
+    }
+
     pub fn add(self, a: u32, b: u32) -> u32
         requires { ⌜ Valid self ⌝ }
         requires { ⌜ Below (self .value) a b ⌝ }
         ensures { λ r. ⌜ Residue (self .value) (a + b) r ⌝ }
     {
         let lacking = self.value - b;
-        if a >= lacking { a - lacking } else { a + b }
+        self.less(a, lacking)
     }
 
     pub fn subtract(self, a: u32, b: u32) -> u32
@@ -91,8 +107,7 @@ impl Modulus {
         requires { ⌜ Below (self .value) a b ⌝ }
         ensures { λ r. ⌜ Residue (self .value) (a + (self .value - b)) r ⌝ }
     {
-        let m = self.value;
-        if a >= b { a - b } else { a + (m - b) }
+        self.less(a, b)
     }
 
     pub fn multiply(self, a: u32, b: u32) -> u32
@@ -166,9 +181,24 @@ impl Accumulator {
         requires { ⌜ Valid modulus ⌝ }
         requires { ⌜ Sound modulus self ⌝ }
         requires { ⌜ Below (modulus .value) a b ⌝ }
-        ensures { λ r. ⌜ Added modulus self a b r ⌝ }
+        ensures { λ r. ⌜ Added modulus self (a * b) r ⌝ }
     {
         let sum = self.sum + (a as u64) * (b as u64);
+        Accumulator {
+            sum: modulus.fold(sum),
+        }
+    }
+
+    // Two products are folded at once.
+    pub fn add_products(self, modulus: Modulus, a: u32, b: u32, c: u32, d: u32) -> Accumulator
+        requires { ⌜ Valid modulus ⌝ }
+        requires { ⌜ Sound modulus self ⌝ }
+        requires { ⌜ Below (modulus .value) a b ⌝ }
+        requires { ⌜ Below (modulus .value) c d ⌝ }
+        ensures { λ r. ⌜ Added modulus self (a * b + c * d) r ⌝ }
+    {
+        let both = (a as u64) * (b as u64) + (c as u64) * (d as u64);
+        let sum = self.sum + both;
         Accumulator {
             sum: modulus.fold(sum),
         }

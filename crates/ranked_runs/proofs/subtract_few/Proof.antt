@@ -1,0 +1,93 @@
+use native.Mathlib.Omega.{arith}
+use Prim.Native.Nat.{_+_, _-_, _≤_}
+use lib.ListN.{length, length-set}
+use Rattle.ranked_theory.specs.Rows.{minus}
+use Rattle.ranked_theory.specs.Runs.{Running, running-none, running-more, running-all, later-ready, first-lower, first-upper, run-one}
+use borrow.Author.Needs.{needs}
+use Rattle.ranked_runs.proofs.subtract_few.Statement.{statement}
+use Rattle.ranked_runs.proofs.subtract_few.Tie as tie
+
+abbrev Inv-loop : tie.InvT-loop
+Inv-loop modulus lo hi count rows₀ i₀ rows i = Running (minus (modulus .value)) lo hi count rows₀ rows i
+
+abbrev μ-loop : tie.MeasureT-loop
+μ-loop modulus lo hi count rows₀ i₀ rows i = count - i
+
+loop-holds : tie.Need-loop-holds Inv-loop μ-loop
+loop-holds c = running-none _ _ _ _ _
+
+add-low : tie.Need-add-low Inv-loop μ-loop
+add-low c = search needs
+
+add-high : tie.Need-add-high Inv-loop μ-loop
+add-high c = search needs
+
+mul-subtract : tie.Need-mul-subtract Inv-loop μ-loop
+mul-subtract c = search needs
+
+slice-read-subtract : tie.Need-slice-read-subtract Inv-loop μ-loop
+slice-read-subtract c = search needs
+
+mul-subtract-2 : tie.Need-mul-subtract-2 Inv-loop μ-loop
+mul-subtract-2 c = search needs
+
+slice-read-subtract-2 : tie.Need-slice-read-subtract-2 Inv-loop μ-loop
+slice-read-subtract-2 c = search needs
+
+subtract-requires : tie.Need-subtract-requires Inv-loop μ-loop
+subtract-requires c κs =
+    let s = c .before .before .before .before .before in
+    let v = c .before .before .before .loop .inv in
+    let next = later-ready (minus (s .args .modulus .value)) _ _ _ _ 1 _ (s .args .rows .now) _ (s .pre .1) (v .done) (v .long) (omega (arith, c .before .before .loop-test .taken)) in
+    (s .pre .0, record { first = first-upper _ _ _ _ _ next (omega arith); second = first-lower _ _ _ _ _ next (omega arith) })
+
+mul-rows : tie.Need-mul-rows Inv-loop μ-loop
+mul-rows c = search needs
+
+slice-write-rows : tie.Need-slice-write-rows Inv-loop μ-loop
+slice-write-rows c = search needs
+
+add-i : tie.Need-add-i Inv-loop μ-loop
+add-i c = search needs
+
+loop-less : tie.Need-loop-less Inv-loop μ-loop
+loop-less c = search needs
+
+loop-again : tie.Need-loop-again Inv-loop μ-loop
+loop-again c =
+    let s = c .before .before .before .before .before .before in
+    let a = s .args in
+    let at = c .before .before .before .before .loop in
+    let here : a .hi + at .i + 1 ≤ length (at .rows) = omega (arith, at .inv .long, s .pre .1 .long, c .before .before .before .loop-test .taken) in
+    running-more (minus (a .modulus .value)) (a .modulus .value) (a .lo) (a .hi) (a .count) (a .rows .now) _ _ (at .i) 1 (s .pre .1) (at .inv)
+    (run-one (minus (a .modulus .value)) (a .lo + at .i) (a .hi + at .i) _ _ here (c .subtract .ensures .same))
+    (length-set (at .rows) (a .hi + at .i) (c .subtract .result))
+    (omega (arith, c .before .before .before .loop-test .taken))
+
+same-length : tie.Need-same-length Inv-loop μ-loop
+same-length c = search needs
+
+returns : tie.Need-returns Inv-loop μ-loop
+returns c = running-all (c .before .loop .inv) (omega (arith, c .loop-test .left))
+
+pub subtract-few-spec : {M : Type 1} → statement M
+subtract-few-spec =
+    tie.close
+    (tie.spec
+    Inv-loop
+    μ-loop
+    loop-holds
+    add-low
+    add-high
+    mul-subtract
+    slice-read-subtract
+    mul-subtract-2
+    slice-read-subtract-2
+    subtract-requires
+    mul-rows
+    slice-write-rows
+    add-i
+    loop-less
+    loop-again
+    same-length
+    returns)
