@@ -1,13 +1,13 @@
-// The ranked subset product of 001 section 1, on rows. Row h has 2n + 2 numbers. On the way down the two factors lie side by
-// side, the left one's rank k at 2k and the right one's at 2k + 1; from one entry up, the row holds the result's rank k at k.
+// The ranked subset product of 001 section 1, on rows. Row h has 2n + 2 numbers. On the way down the two factors lie side by side,
+// the left one's rank k at 2 (|h| - k) and the right one's next to it; from one entry up, the row holds the result's rank |h| + i
+// at 2n - i. Since ranks are counted from |h|, a row starts with what its entry is made of and ends with what it becomes.
 ghost use mathlib.Core.Path.{_≡_};
 ghost use Prim.Native.Nat.{_+_, _-_, _*_, _^_, _≤_, _<_, min};
-ghost use lib.ListN.{length};
 ghost use Rattle.definitions.specs.Sets.{size};
 ghost use Rattle.definitions.specs.Products.{subsetTable};
 ghost use Rattle.residues.specs.Moduli.{Valid, Residue};
 ghost use Rattle.sets.specs.Sizes.{ByteSizes};
-ghost use Rattle.ranked_theory.specs.Rows.{Added, Subtracted, RowStep, RowReady, RowsStep, RowsReady, coefficient, RowOfResidues, Coefficients, Stored, Multiplied};
+ghost use Rattle.ranked_theory.specs.Rows.{Added, Subtracted, RowStep, RowReady, RowsStep, RowsReady, backFrom, backCount, coefficient, RanksBelow, RowOfResidues, Multiplied};
 ghost use Rattle.ranked_theory.specs.Recursion.{width, Ready, Worked, LaidLeft, Room, LaidOut, ReadOff, FactorsReady, ProductOfLaid, TablesReady};
 use ranked_runs::add_run;
 use ranked_runs::store_pair;
@@ -37,46 +37,39 @@ fn row_width(n: usize) -> usize
     2 * n + 2
 }
 
-// Step 1 for one row u of the lower half, at its ranks |u| to |u| + d: 001's |h| - |h0| to |h|. The row above it has nothing at
-// rank |u| yet, so that rank is stored.
-fn add_row(
-    modulus: Modulus,
-    sizes: &[u8; 256],
-    d: SetSize,
-    w: usize,
-    mid: usize,
-    u: SetCode,
-    rows: &mut [u32],
-)
+// Step 1 for one row u of the lower half: the ranks from |h| - |h0| to |h|, the highest first. The row above has one control more,
+// so each rank stands two places on there; it has nothing at the lowest rank yet, so that is stored.
+fn add_row(modulus: Modulus, d: SetSize, w: usize, mid: usize, u: SetCode, rows: &mut [u32])
     requires { ⌜ Valid modulus ⌝ }
-    requires { ⌜ ByteSizes (now sizes) ⌝ }
-    requires { ⌜ RowReady (modulus .value) (2 * size (u .0) + 2) (2 * d .0) w mid (u .0) (now rows) ⌝ }
-    ensures { λ _. ⌜ RowStep (Added (modulus .value) (d .0) (size (u .0))) w mid (u .0) (now (rows .entry)) (now (rows .exit)) ⌝ }
+    requires { ⌜ RowReady (modulus .value) 2 0 (2 * d .0) w mid (u .0) (now rows) ⌝ }
+    requires { ⌜ 2 * d .0 + 4 ≤ w ⌝ }
+    ensures { λ _. ⌜ RowStep (Added (modulus .value) (d .0)) 2 w mid (u .0) (now (rows .entry)) (now (rows .exit)) ⌝ }
 {
-    let rank = u.size_by(sizes);
-    let low = u.0 * w + 2 * rank.0;
-    store_pair(low, mid + low, rows);
-    let next = low + 2;
-    add_run(modulus, next, mid + next, 2 * d.0, rows);
+    let low = u.0 * w;
+    let high = mid + low + 2;
+    let more = 2 * d.0;
+    add_run(modulus, low, high, more, rows);
+    store_pair(low + more, high + more, rows);
 }
 
 // Step 1: each row of the upper half takes the row of the lower half.
-fn add_lower(modulus: Modulus, sizes: &[u8; 256], p: usize, d: SetSize, w: usize, rows: &mut [u32])
+fn add_lower(modulus: Modulus, p: usize, d: SetSize, w: usize, rows: &mut [u32])
     requires { ⌜ Valid modulus ⌝ }
-    requires { ⌜ ByteSizes (now sizes) ⌝ }
-    requires { ⌜ RowsReady (modulus .value) (λ u. 2 * size u + 2) (λ u. 2 * d .0) w p (now rows) ⌝ }
-    ensures { λ _. ⌜ RowsStep (λ u. Added (modulus .value) (d .0) (size u)) w (2 ^ p * w) (2 ^ p) (now (rows .entry)) (now (rows .exit)) ⌝ }
+    requires { ⌜ RowsReady (modulus .value) 2 (λ u. 0) (λ u. 2 * d .0) w p (now rows) ⌝ }
+    requires { ⌜ 2 * d .0 + 4 ≤ w ⌝ }
+    ensures { λ _. ⌜ RowsStep (λ u. Added (modulus .value) (d .0)) 2 w (2 ^ p * w) (2 ^ p) (now (rows .entry)) (now (rows .exit)) ⌝ }
 {
     let half = power_of_two(p);
     let mid = half * w;
     let mut u = 0;
     while u < half {
-        add_row(modulus, sizes, d, w, mid, SetCode(u), rows);
+        add_row(modulus, d, w, mid, SetCode(u), rows);
         u += 1;
     }
 }
 
-// Step 2 for one row u of the lower half: from its size |h| = |u| + d to |h| + e, and none past 2 |h|.
+// Step 2 for one row u of the lower half: from its size |h| = |u| + d to |h| + e, and none past 2 |h|. The lowest of these ranks
+// stands last but one in its row and last in the row above.
 fn subtract_row(
     modulus: Modulus,
     sizes: &[u8; 256],
@@ -89,14 +82,14 @@ fn subtract_row(
 )
     requires { ⌜ Valid modulus ⌝ }
     requires { ⌜ ByteSizes (now sizes) ⌝ }
-    requires { ⌜ RowReady (modulus .value) (size (u .0) + d .0) (min (e .0) (size (u .0) + d .0) + 1) w mid (u .0) (now rows) ⌝ }
-    ensures { λ _. ⌜ RowStep (Subtracted (modulus .value) (e .0) (size (u .0) + d .0)) w mid (u .0) (now (rows .entry)) (now (rows .exit)) ⌝ }
+    requires { ⌜ RowReady (modulus .value) 1 (backFrom w (e .0) (size (u .0) + d .0)) (backCount (e .0) (size (u .0) + d .0)) w mid (u .0) (now rows) ⌝ }
+    requires { ⌜ d .0 ≤ 16 ⌝ }
+    ensures { λ _. ⌜ RowStep (Subtracted (modulus .value) w (e .0) (size (u .0) + d .0)) 1 w mid (u .0) (now (rows .entry)) (now (rows .exit)) ⌝ }
 {
     let low = u.size_by(sizes);
-    let whole = SetSize(low.0 + d.0);
-    let first = u.0 * w + whole.0;
-    let more = lesser(e, whole);
-    subtract_run(modulus, first, mid + first, more.0 + 1, rows);
+    let more = lesser(e, SetSize(low.0 + d.0));
+    let first = u.0 * w + (w - 2 - more.0);
+    subtract_run(modulus, first, mid + first + 1, more.0 + 1, rows);
 }
 
 // Step 2: each row of the upper half loses the row of the lower half.
@@ -111,8 +104,9 @@ fn subtract_lower(
 )
     requires { ⌜ Valid modulus ⌝ }
     requires { ⌜ ByteSizes (now sizes) ⌝ }
-    requires { ⌜ RowsReady (modulus .value) (λ u. size u + d .0) (λ u. min (e .0) (size u + d .0) + 1) w p (now rows) ⌝ }
-    ensures { λ _. ⌜ RowsStep (λ u. Subtracted (modulus .value) (e .0) (size u + d .0)) w (2 ^ p * w) (2 ^ p) (now (rows .entry)) (now (rows .exit)) ⌝ }
+    requires { ⌜ RowsReady (modulus .value) 1 (λ u. backFrom w (e .0) (size u + d .0)) (λ u. backCount (e .0) (size u + d .0)) w p (now rows) ⌝ }
+    requires { ⌜ d .0 ≤ 16 ⌝ }
+    ensures { λ _. ⌜ RowsStep (λ u. Subtracted (modulus .value) w (e .0) (size u + d .0)) 1 w (2 ^ p * w) (2 ^ p) (now (rows .entry)) (now (rows .exit)) ⌝ }
 {
     let half = power_of_two(p);
     let mid = half * w;
@@ -123,63 +117,57 @@ fn subtract_lower(
     }
 }
 
-// Rank d + e of the product of a row's factors, neither of which goes above d.
+// Rank d + e of the product of a row's factors, neither of which goes above d. Two products are added at a time.
 fn product_rank(modulus: Modulus, d: SetSize, e: SetSize, row: &[u32]) -> u32
     requires { ⌜ Valid modulus ⌝ }
-    requires { ⌜ RowOfResidues (modulus .value) (d .0) (d .0) (now row) ⌝ }
     requires { ⌜ e .0 ≤ d .0 ⌝ }
-    ensures { λ r. ⌜ Residue (modulus .value) (coefficient (d .0) (e .0) (now (row .entry))) r ⌝ }
+    requires { ⌜ RanksBelow (modulus .value) (d .0 - e .0) (now row) ⌝ }
+    ensures { λ r. ⌜ Residue (modulus .value) (coefficient (d .0 - e .0) (now (row .entry))) r ⌝ }
 {
-    let count = d.0 - e.0 + 1;
+    let top = d.0 - e.0;
     let mut total = Accumulator::start();
     let mut j = 0;
-    while j < count {
-        let left = 2 * (e.0 + j);
-        let right = 2 * (d.0 - j) + 1;
-        total = total.add_product(modulus, row[left], row[right]);
-        j += 1;
+    while j < top {
+        let left = 2 * (top - j);
+        let right = 2 * j + 1;
+        let left_next = left - 2;
+        let right_next = right + 2;
+        total = total.add_products(
+            modulus,
+            row[left],
+            row[right],
+            row[left_next],
+            row[right_next],
+        );
+        j += 2;
     }
-    total.residue(modulus)
-}
-
-// Ranks d, d + 1, .. of the product of a row's factors, count of them.
-fn product_ranks(modulus: Modulus, d: SetSize, count: usize, row: &[u32], ranks: &mut [u32; 17])
-    requires { ⌜ Valid modulus ⌝ }
-    requires { ⌜ RowOfResidues (modulus .value) (d .0) (d .0) (now row) ⌝ }
-    requires { ⌜ (count ≤ d .0 + 1) × (length (now ranks) ≡ 17) ⌝ }
-    ensures { λ _. ⌜ Coefficients (modulus .value) (d .0) count (now (row .entry)) (now (ranks .exit)) ⌝ }
-{
-    let mut e = 0;
-    while e < count {
-        ranks[e] = product_rank(modulus, d, SetSize(e), row);
-        e += 1;
-    }
-}
-
-// The first count of the ranks, from rank d on.
-fn store_ranks(d: SetSize, count: usize, ranks: &[u32; 17], row: &mut [u32])
-    requires { ⌜ (count ≤ 17) × (d .0 + count ≤ length (now row)) ⌝ }
-    ensures { λ _. ⌜ Stored (d .0) count (now (ranks .entry)) (now (row .entry)) (now (row .exit)) ⌝ }
-{
-    let mut i = 0;
-    while i < count {
-        let k = d.0 + i;
-        row[k] = ranks[i];
-        i += 1;
+    if j == top {
+        let right = 2 * j + 1;
+        total
+            .add_product(modulus, row[0], row[right])
+            .residue(modulus)
+    } else {
+        total.residue(modulus)
     }
 }
 
-// Step 3: the ranks from |h0| = d to 2d, and none past n.
+// Step 3: the ranks from |h0| = d to 2d, and none past n. Each is stored from the row's end, past the ranks that later ones take.
+// The rank below d counts for nothing, but step 2 goes on to take it.
 fn multiply_row(n: usize, modulus: Modulus, d: SetSize, row: &mut [u32])
     requires { ⌜ Valid modulus ⌝ }
     requires { ⌜ RowOfResidues (modulus .value) n (d .0) (now row) ⌝ }
     ensures { λ _. ⌜ Multiplied (modulus .value) n (d .0) (now (row .entry)) (now (row .exit)) ⌝ }
 {
     let more = lesser(SetSize(n - d.0), d);
-    let count = more.0 + 1;
-    let mut ranks = [0u32; 17];
-    product_ranks(modulus, d, count, row, &mut ranks);
-    store_ranks(d, count, &ranks, row);
+    let last = 2 * n;
+    let mut e = 0;
+    while e <= more.0 {
+        let place = last - e;
+        row[place] = product_rank(modulus, d, SetSize(e), row);
+        e += 1;
+    }
+    let before = last + 1;
+    row[before] = 0;
 }
 
 // The recursion on 2^q rows whose codes share d = |h0| controls above the low q.
@@ -202,7 +190,7 @@ fn ranked_product(
         let p = q - 1;
         let w = row_width(n);
         let mid = power_of_two(p) * w;
-        add_lower(modulus, sizes, p, d, w, rows);
+        add_lower(modulus, p, d, w, rows);
         ranked_product(n, modulus, sizes, p, d, &mut rows[..mid]);
         ranked_product(n, modulus, sizes, p, SetSize(d.0 + 1), &mut rows[mid..]);
         subtract_lower(modulus, sizes, p, d, SetSize(n - p - d.0), w, rows);
@@ -210,8 +198,7 @@ fn ranked_product(
 }
 
 // a[h] becomes rank |h| of row h in the factor at that side, 0 the left one and 1 the right one.
-fn lay_out(n: usize, sizes: &[u8; 256], side: usize, a: &[u32], rows: &mut [u32])
-    requires { ⌜ ByteSizes (now sizes) ⌝ }
+fn lay_out(n: usize, side: usize, a: &[u32], rows: &mut [u32])
     requires { ⌜ Room n (now a) (now rows) ⌝ }
     requires { ⌜ side ≤ 1 ⌝ }
     ensures { λ _. ⌜ LaidOut n side (now (a .entry)) (now (rows .entry)) (now (rows .exit)) ⌝ }
@@ -219,9 +206,7 @@ fn lay_out(n: usize, sizes: &[u8; 256], side: usize, a: &[u32], rows: &mut [u32]
     let w = row_width(n);
     let mut h = 0;
     while h < a.len() {
-        let code = SetCode(h);
-        let rank = code.size_by(sizes);
-        let place = h * w + (2 * rank.0 + side);
+        let place = h * w + side;
         rows[place] = a[h];
         h += 1;
     }
@@ -232,22 +217,18 @@ pub fn lay_out_left(n: usize, a: &[u32], rows: &mut [u32])
     requires { ⌜ Room n (now a) (now rows) ⌝ }
     ensures { λ _. ⌜ LaidLeft n (now (a .entry)) (now (rows .exit)) ⌝ }
 {
-    let sizes = sets::byte_sizes();
-    lay_out(n, &sizes, 0, a, rows);
+    lay_out(n, 0, a, rows);
 }
 
 // The result: result[h] is rank |h| of row h.
-fn read_off(n: usize, sizes: &[u8; 256], rows: &[u32], result: &mut [u32])
-    requires { ⌜ ByteSizes (now sizes) ⌝ }
+fn read_off(n: usize, rows: &[u32], result: &mut [u32])
     requires { ⌜ Room n (now result) (now rows) ⌝ }
     ensures { λ _. ⌜ ReadOff n (now (rows .entry)) (now (result .exit)) ⌝ }
 {
     let w = row_width(n);
     let mut h = 0;
     while h < result.len() {
-        let code = SetCode(h);
-        let rank = code.size_by(sizes);
-        let place = h * w + rank.0;
+        let place = h * w + 2 * n;
         result[h] = rows[place];
         h += 1;
     }
@@ -259,11 +240,11 @@ pub fn multiply_laid(n: usize, modulus: Modulus, b: &[u32], result: &mut [u32], 
     requires { ⌜ FactorsReady (modulus .value) n (now b) (now result) (now rows) ⌝ }
     ensures { λ _. ⌜ ProductOfLaid (modulus .value) n (now (b .entry)) (now (rows .entry)) (now (result .exit)) ⌝ }
 {
+    lay_out(n, 1, b, rows);
     let sizes = sets::byte_sizes();
-    lay_out(n, &sizes, 1, b, rows);
     let used = power_of_two(n) * row_width(n);
     ranked_product(n, modulus, &sizes, n, SetSize(0), &mut rows[..used]);
-    read_off(n, &sizes, rows, result);
+    read_off(n, rows, result);
 }
 
 // The subset product of a and b.

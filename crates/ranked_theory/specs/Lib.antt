@@ -7,6 +7,7 @@ pub mod Places
 pub mod Runs
 pub mod RowSteps
 pub mod Levels
+pub mod Leaf
 pub mod Halves
 pub mod Turns
 pub mod Tables

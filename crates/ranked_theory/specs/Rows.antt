@@ -48,48 +48,60 @@ pub record RunReady (m lo hi count : ℕ) (xs : List ℕ) : Type 0 where
   pub upper : (i : ℕ) → i < count → at xs (hi + i) < m
 
 -- ---- a row, and the row mid past it
+--
+-- Row h has the rank k of its factors at the places 2 (|h| - k) and 2 (|h| - k) + 1 and the rank |h| + i of the result at 2 n - i,
+-- from its end. The row past it has one control more, so that a rank stands two places on there, and one place on in the result.
 
--- Step (1) at place r of the upper row, which held x, over y in the lower row, whose code has s controls. Each rank has two
--- places. The lowest rank of the lower row is below those that the upper row has, so it is stored.
-pub record Added (m d s r x y z : ℕ) : Type 0 where
-  pub lowest : 2 * s ≤ r → r < 2 * s + 2 → z ≡ y
-  pub sums : 2 * s + 2 ≤ r → r < 2 * s + 2 + 2 * d → z ≡ plus m x y
-  pub above : 2 * s + 2 + 2 * d ≤ r → z ≡ x
+-- Step (1) at place r of the upper row, which held x, over y two places before in the lower row. The lower row's lowest rank is below
+-- those that the upper row has, so it is stored.
+pub record Added (m d r x y z : ℕ) : Type 0 where
+  pub highest : r < 2 → z ≡ x
+  pub sums : 2 ≤ r → r < 2 * d + 2 → z ≡ plus m x y
+  pub lowest : 2 * d + 2 ≤ r → r < 2 * d + 4 → z ≡ y
 
--- Step (2) at rank k of the upper row, where s is the size |h| of the lower row's code: from |h| to |h| + e, and none past 2 |h|
-pub record Subtracted (m e s k x y z : ℕ) : Type 0 where
-  pub within : s ≤ k → k ≤ s + min e s → z ≡ minus m x y
-  pub without : (k < s) ⊎ (s + min e s < k) → z ≡ x
+-- Step (2) at place r of the upper row over y one place before in the lower row, where s is the size |h| of the lower row's code:
+-- the ranks from |h| to |h| + e, and none past 2 |h|
+pub record Subtracted (m w e s r x y z : ℕ) : Type 0 where
+  pub within : w ≤ r + min e s + 1 → z ≡ minus m x y
+  pub without : r + min e s + 1 < w → z ≡ x
 
--- the row mid past row u becomes at each place r what P says of that place, and nothing else changes
-pub record RowStep (P : ℕ → ℕ → ℕ → ℕ → Type 0) (w mid u : ℕ) (xs ys : List ℕ) : Type 0 where
-  pub here : (r : ℕ) → r < w → P r (at xs (mid + (u * w + r))) (at xs (u * w + r)) (at ys (mid + (u * w + r)))
+-- the row mid past row u becomes at each place r what P says of that place and of the place shift before it in row u, and nothing
+-- else changes
+pub record RowStep (P : ℕ → ℕ → ℕ → ℕ → Type 0) (shift w mid u : ℕ) (xs ys : List ℕ) : Type 0 where
+  pub here : (r : ℕ) → r < w → P r (at xs (mid + (u * w + r))) (at xs (u * w + (r - shift))) (at ys (mid + (u * w + r)))
   pub elsewhere : (j : ℕ) → (j < mid + u * w) ⊎ (mid + (u * w + w) ≤ j) → at ys j ≡ at xs j
 
--- row u and the row mid past it are in the list, and both have residues at count places from lo on
-pub record RowReady (m lo count w mid u : ℕ) (xs : List ℕ) : Type 0 where
+-- row u and the row mid past it are in the list; row u has residues at count places from lo on, and the other one shift past them
+pub record RowReady (m shift lo count w mid u : ℕ) (xs : List ℕ) : Type 0 where
   pub code : u < 2 ^ 16
-  pub row : lo + count ≤ w
+  pub row : lo + shift + count ≤ w
   pub lower : u * w + w ≤ mid
   pub upper : mid + (u * w + w) ≤ length xs
   pub lower-below : (r : ℕ) → lo ≤ r → r < lo + count → at xs (u * w + r) < m
-  pub upper-below : (r : ℕ) → lo ≤ r → r < lo + count → at xs (mid + (u * w + r)) < m
+  pub upper-below : (r : ℕ) → lo + shift ≤ r → r < lo + shift + count → at xs (mid + (u * w + r)) < m
 
 -- ---- the rows of the upper half, each over its row of the lower half
 
 -- rows mid + u become what P u says, for u < h
-pub record RowsStep (P : ℕ → ℕ → ℕ → ℕ → ℕ → Type 0) (w mid h : ℕ) (xs ys : List ℕ) : Type 0 where
-  pub changed : (u r : ℕ) → u < h → r < w → P u r (at xs (mid + (u * w + r))) (at xs (u * w + r)) (at ys (mid + (u * w + r)))
+pub record RowsStep (P : ℕ → ℕ → ℕ → ℕ → ℕ → Type 0) (shift w mid h : ℕ) (xs ys : List ℕ) : Type 0 where
+  pub changed : (u r : ℕ) → u < h → r < w → P u r (at xs (mid + (u * w + r))) (at xs (u * w + (r - shift))) (at ys (mid + (u * w + r)))
   pub lower : (j : ℕ) → j < mid → at ys j ≡ at xs j
   pub rest : (j : ℕ) → mid + h * w ≤ j → at ys j ≡ at xs j
 
--- two halves of 2 ^ p rows, with residues at count u places from lo u on in row u of each
-pub record RowsReady (m : ℕ) (lo count : ℕ → ℕ) (w p : ℕ) (xs : List ℕ) : Type 0 where
+-- two halves of 2 ^ p rows, with residues at count u places of row u from lo u on, and shift past them in the upper half
+pub record RowsReady (m shift : ℕ) (lo count : ℕ → ℕ) (w p : ℕ) (xs : List ℕ) : Type 0 where
   pub few : p ≤ 16
   pub long : length xs ≡ 2 ^ p * w + 2 ^ p * w
-  pub row : (u : ℕ) → u < 2 ^ p → lo u + count u ≤ w
+  pub row : (u : ℕ) → u < 2 ^ p → lo u + shift + count u ≤ w
   pub lower-below : (u r : ℕ) → u < 2 ^ p → lo u ≤ r → r < lo u + count u → at xs (u * w + r) < m
-  pub upper-below : (u r : ℕ) → u < 2 ^ p → lo u ≤ r → r < lo u + count u → at xs (2 ^ p * w + (u * w + r)) < m
+  pub upper-below : (u r : ℕ) → u < 2 ^ p → lo u + shift ≤ r → r < lo u + shift + count u → at xs (2 ^ p * w + (u * w + r)) < m
+
+-- where step (2) starts in a row, and how many places it has
+abbrev pub backFrom : ℕ → ℕ → ℕ → ℕ
+backFrom w e s = w - 2 - min e s
+
+abbrev pub backCount : ℕ → ℕ → ℕ
+backCount e s = min e s + 1
 
 -- ---- one row
 
@@ -97,9 +109,15 @@ pub record RowsReady (m : ℕ) (lo count : ℕ → ℕ) (w p : ℕ) (xs : List �
 abbrev pub coefficientCount : ℕ → ℕ → ℕ
 coefficientCount n d = min (n - d) d + 1
 
--- rank d + e of the product of the row's two factors: a's rank k is at 2 k, b's at 2 k + 1, and neither is above d
-abbrev pub coefficient : ℕ → ℕ → List ℕ → ℕ
-coefficient d e xs = sum (d - e + 1) (λ i. at xs (2 * (e + i)) * at xs (2 * (d - i) + 1))
+-- rank 2 d - t of the product of the row's two factors, which go up to rank d: their ranks are counted from d down
+abbrev pub coefficient : ℕ → List ℕ → ℕ
+coefficient t xs = sum (t + 1) (λ j. at xs (2 * (t - j)) * at xs (2 * j + 1))
+
+-- the ranks that such a coefficient takes are residues
+pub record RanksBelow (m t : ℕ) (xs : List ℕ) : Type 0 where
+  pub few : t ≤ 16
+  pub long : 2 * t + 2 ≤ length xs
+  pub below : (j : ℕ) → j < 2 * t + 2 → at xs j < m
 
 pub record RowOfResidues (m n d : ℕ) (xs : List ℕ) : Type 0 where
   pub few : n ≤ 16
@@ -107,14 +125,7 @@ pub record RowOfResidues (m n d : ℕ) (xs : List ℕ) : Type 0 where
   pub long : 2 * n + 2 ≤ length xs
   pub below : (j : ℕ) → j < 2 * d + 2 → at xs j < m
 
--- the first c of a list are the coefficients of ranks d, d + 1, ..
-abbrev pub Coefficients : ℕ → ℕ → ℕ → List ℕ → List ℕ → Type 0
-Coefficients m d c xs cs = (e : ℕ) → e < c → at cs e ≡ coefficient d e xs % m
-
--- the first c of a list stored from place d on
-abbrev pub Stored : ℕ → ℕ → List ℕ → List ℕ → List ℕ → Type 0
-Stored d c cs xs ys = Placed (at cs) d c xs ys
-
--- step (3)
-abbrev pub Multiplied : ℕ → ℕ → ℕ → List ℕ → List ℕ → Type 0
-Multiplied m n d xs ys = Placed (λ e. coefficient d e xs % m) d (coefficientCount n d) xs ys
+-- Step (3). Step (2) goes on to take the rank below d too, which counts for nothing: it is left a residue.
+pub record Multiplied (m n d : ℕ) (xs ys : List ℕ) : Type 0 where
+  pub ranks : (e : ℕ) → e < coefficientCount n d → at ys (2 * n - e) ≡ coefficient (d - e) xs % m
+  pub before : at ys (2 * n + 1) ≡ 0

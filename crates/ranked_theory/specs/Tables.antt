@@ -1,39 +1,36 @@
 -- Tables in rows: laying a factor out, and reading the product off.
 --   Laying, Reading          the invariants of the two loops
 --   root-ready, root-product     what the recursion takes and leaves at the root
-use mathlib.Core.Path.{_≡_, refl, sym, ap, ap₂, subst, _∙_}
+use mathlib.Core.Path.{_≡_, refl, sym, ap, subst, _∙_}
 use mathlib.Core.List.{List, _++_}
 use mathlib.Core.Logic.{⊎-elim}
-use Prim.Native.Nat.{ℕ, _+_, _*_, _%_, _^_, _≤_, _<_}
-use native.Mathlib.Nat.{add-zero, mod-eq-of-lt, not-suc-le-zero}
+use Prim.Native.Nat.{ℕ, _+_, _-_, _*_, _%_, _^_, _≤_, _<_}
+use native.Mathlib.Nat.{mod-eq-of-lt, not-suc-le-zero}
 use native.Mathlib.Omega.{arith}
-use lib.Pow.{pow-mono}
 use lib.ListN.{length, take, drop, set, length-set, List·getD-append}
 use lib.Seq.{getD-set-same, getD-set-other, getD-take, length-take-le}
 use Rattle.definitions.specs.Sums.{at}
 use Rattle.definitions.specs.Sets.{size}
 use Rattle.definitions.specs.Products.{subsetSum}
 use Rattle.theory.specs.Tests.{below-or}
-use Rattle.theory.specs.Codes.{size-le}
 use Rattle.theory.specs.Lists.{residues-of}
+use Rattle.ranked_theory.specs.Cover.{cover}
 use Rattle.ranked_theory.specs.Lowest.{ranked, ranked-on, ranked-ranks, cover-ranked}
-use Rattle.ranked_theory.specs.Recursion.{width, Ready, Factor, Worked, Laid, LaidLeft, LaidOut, ReadOff, FactorsReady, ProductOfLaid, TablesReady}
+use Rattle.ranked_theory.specs.Recursion.{width, Ready, Factor, Worked, LaidLeft, LaidOut, ReadOff, FactorsReady, ProductOfLaid, TablesReady}
 use Rattle.ranked_theory.specs.Places.{row-in, at-next}
 
 -- a row of a table's rows, of width w, in a list of len numbers
 pub record RowRoom (n w h len : ℕ) : Type 0 where
   pub within : h * w + w ≤ len
   pub wide : w ≡ 2 * n + 2
-  pub code : h < 2 ^ 16
-  pub few : size h ≤ n
+  pub few : n ≤ 16
 
 pub row-room : (n w h len : ℕ) → n ≤ 16 → w ≡ width n → h < 2 ^ n → 2 ^ n * width n ≤ len → RowRoom n w h len
 row-room n w h len few e l room =
     record {
       within = subst (λ (v : ℕ). h * v + v ≤ len) (sym e) (let b = row-in h (2 ^ n) (width n) l in omega arith);
       wide = e;
-      code = omega (arith, pow-mono few);
-      few = size-le n h l;
+      few = few;
     }
 
 -- ---- laying out
@@ -41,8 +38,8 @@ row-room n w h len few e l room =
 pub record Laying (n side : ℕ) (A xs ys : List ℕ) (H : ℕ) : Type 0 where
   pub turn : H ≤ 2 ^ n
   pub long : length ys ≡ length xs
-  pub laid : (h : ℕ) → h < H → at ys (h * width n + (2 * size h + side)) ≡ at A h
-  pub other : (h r : ℕ) → r < width n → (h < H → r ≡ 2 * size h + side → ⊥) → at ys (h * width n + r) ≡ at xs (h * width n + r)
+  pub laid : (h : ℕ) → h < H → at ys (h * width n + side) ≡ at A h
+  pub other : (h r : ℕ) → r < width n → (h < H → r ≡ side → ⊥) → at ys (h * width n + r) ≡ at xs (h * width n + r)
 
 pub laying-none : (n side : ℕ) (A xs : List ℕ) → Laying n side A xs xs 0
 laying-none n side A xs =
@@ -55,63 +52,54 @@ same-row w h r H R lr lR e =
     (λ (g : H ≤ h). ⊎-elim (λ (l : H < h). let b = row-in H h w l in omega arith) (λ (g' : h ≤ H). omega arith) (below-or H h)) (below-or h H)
 
 lay-one : {n side : ℕ} {A xs ys : List ℕ} {H : ℕ} → Laying n side A xs ys H → side ≤ 1 → H < 2 ^ n → 2 ^ n * width n ≤ length xs
-    → (s x : ℕ) → s ≡ size H → x ≡ at A H → Laying n side A xs (set ys (H * width n + (2 * s + side)) x) (H + 1)
-lay-one {n} {side} {A} {xs} {ys} {H} h one l room s x es ex =
+    → (x : ℕ) → x ≡ at A H → Laying n side A xs (set ys (H * width n + side) x) (H + 1)
+lay-one {n} {side} {A} {xs} {ys} {H} h one l room x ex =
     let w = width n in
-    let place = 2 * s + side in
-    let low = size-le n H l in
     let b = row-in H (2 ^ n) w l in
     record {
       turn = omega arith;
-      long = length-set ys (H * w + place) x ∙ h .long;
+      long = length-set ys (H * w + side) x ∙ h .long;
       laid = λ g lg.
-          at-next (λ k. at (set ys (H * w + place) x) (k * w + (2 * size k + side)) ≡ at A k) H g lg
-          (λ lt.
-          let c = size-le n g (omega arith) in
-          let d = row-in g H w lt in
-          getD-set-other ys (H * w + place) (g * w + (2 * size g + side)) x 0 (λ q. omega arith) ∙ h .laid g lt)
-          (subst (λ (t : ℕ). at (set ys (H * w + place) x) (H * w + (2 * t + side)) ≡ at A H) es
-          (getD-set-same ys (H * w + place) x 0 (omega (arith, h .long)) ∙ ex));
+          at-next (λ k. at (set ys (H * w + side) x) (k * w + side) ≡ at A k) H g lg
+          (λ lt. let d = row-in g H w lt in getD-set-other ys (H * w + side) (g * w + side) x 0 (λ q. omega arith) ∙ h .laid g lt)
+          (getD-set-same ys (H * w + side) x 0 (omega (arith, h .long)) ∙ ex);
       other = λ g r lr no.
-          getD-set-other ys (H * w + place) (g * w + r) x 0
+          getD-set-other ys (H * w + side) (g * w + r) x 0
           (λ q.
-          let e : g ≡ H = same-row w g r H place lr (omega arith) (omega arith) in
+          let e : g ≡ H = same-row w g r H side lr (omega arith) (omega arith) in
           let z = ap (λ (t : ℕ). t * w) e in
-          no (omega arith) (omega (arith, es, ap size e)))
+          no (omega arith) (omega arith))
           ∙ h .other g r lr (λ lt. no (omega arith));
     }
 
 pub laying-more : {n side : ℕ} {A xs ys : List ℕ} {H : ℕ} → Laying n side A xs ys H → side ≤ 1 → H < 2 ^ n → 2 ^ n * width n ≤ length xs
-    → (w s x : ℕ) → w ≡ width n → s ≡ size H → x ≡ at A H → Laying n side A xs (set ys (H * w + (2 * s + side)) x) (H + 1)
-laying-more {n} {side} {A} {xs} {ys} {H} h one l room w s x ew es ex =
-    subst (λ (v : ℕ). Laying n side A xs (set ys (H * v + (2 * s + side)) x) (H + 1)) (sym ew) (lay-one h one l room s x es ex)
+    → (w x : ℕ) → w ≡ width n → x ≡ at A H → Laying n side A xs (set ys (H * w + side) x) (H + 1)
+laying-more {n} {side} {A} {xs} {ys} {H} h one l room w x ew ex =
+    subst (λ (v : ℕ). Laying n side A xs (set ys (H * v + side) x) (H + 1)) (sym ew) (lay-one h one l room x ex)
 
 pub laying-all : {n side : ℕ} {A xs ys : List ℕ} {H : ℕ} → Laying n side A xs ys H → 2 ^ n ≤ H → LaidOut n side A xs ys
 laying-all h l = record { laid = λ g lg. h .laid g (omega arith); other = λ g r lg lr no. h .other g r lr (λ lt. no) }
-
-pub laid-left : (n : ℕ) (A xs : List ℕ) → Laid n 0 A xs → LaidLeft n A xs
-laid-left n A xs h g lg = ap (λ (k : ℕ). at xs (g * width n + k)) (sym (add-zero (2 * size g))) ∙ h g lg
 
 -- ---- reading off
 
 pub record Reading (n : ℕ) (xs r₀ r : List ℕ) (H : ℕ) : Type 0 where
   pub turn : H ≤ 2 ^ n
   pub long : length r ≡ length r₀
-  pub done : (h : ℕ) → h < H → at r h ≡ at xs (h * width n + size h)
+  pub done : (h : ℕ) → h < H → at r h ≡ at xs (h * width n + 2 * n)
 
 pub reading-none : (n : ℕ) (xs r : List ℕ) → Reading n xs r r 0
 reading-none n xs r = record { turn = omega arith; long = refl; done = λ h l. absurd (not-suc-le-zero l) }
 
-pub reading-more : {n : ℕ} {xs r₀ r : List ℕ} {H : ℕ} → Reading n xs r₀ r H → H < 2 ^ n → length r₀ ≡ 2 ^ n → (w s x : ℕ) → w ≡ width n → s ≡ size H
-    → x ≡ at xs (H * w + s) → Reading n xs r₀ (set r H x) (H + 1)
-reading-more {n} {xs} {r₀} {r} {H} h l room w s x ew es ex =
+pub reading-more : {n : ℕ} {xs r₀ r : List ℕ} {H : ℕ} → Reading n xs r₀ r H → H < 2 ^ n → length r₀ ≡ 2 ^ n → (w x : ℕ) → w ≡ width n
+    → x ≡ at xs (H * w + 2 * n) → Reading n xs r₀ (set r H x) (H + 1)
+reading-more {n} {xs} {r₀} {r} {H} h l room w x ew ex =
     record {
       turn = omega arith;
       long = length-set r H x ∙ h .long;
       done = λ g lg.
-          at-next (λ k. at (set r H x) k ≡ at xs (k * width n + size k)) H g lg
+          at-next (λ k. at (set r H x) k ≡ at xs (k * width n + 2 * n)) H g lg
           (λ lt. getD-set-other r H g x 0 (λ q. omega arith) ∙ h .done g lt)
-          (getD-set-same r H x 0 (omega (arith, h .long)) ∙ ex ∙ ap₂ (λ (v t : ℕ). at xs (H * v + t)) ew es);
+          (getD-set-same r H x 0 (omega (arith, h .long)) ∙ ex ∙ ap (λ (v : ℕ). at xs (H * v + 2 * n)) ew);
     }
 
 pub reading-all : {n : ℕ} {xs r₀ r : List ℕ} {H : ℕ} → Reading n xs r₀ r H → 2 ^ n ≤ H → ReadOff n xs r
@@ -124,13 +112,11 @@ module _ (m n : ℕ) (b r xs : List ℕ) (ready : FactorsReady m n b r xs) (ys :
   at-part : (u k : ℕ) → u < 2 ^ n → k < width n → at (take used ys) (u * width n + k) ≡ at ys (u * width n + k)
   at-part u k lu lk = let c = row-in u (2 ^ n) (width n) lu in getD-take used ys (u * width n + k) 0 (omega arith)
 
-  left-kept : (u : ℕ) → u < 2 ^ n → at (take used ys) (u * width n + 2 * size u) ≡ at xs (u * width n + 2 * size u)
-  left-kept u lu =
-      let s = size-le n u lu in
-      at-part u (2 * size u) lu (omega arith) ∙ out .other u (2 * size u) lu (omega arith) (λ e. omega arith)
+  left-kept : (u : ℕ) → u < 2 ^ n → at (take used ys) (u * width n + 0) ≡ at xs (u * width n + 0)
+  left-kept u lu = at-part u 0 lu (omega arith) ∙ out .other u 0 lu (omega arith) (λ e. omega arith)
 
-  right-laid : (u : ℕ) → u < 2 ^ n → at (take used ys) (u * width n + (2 * size u + 1)) ≡ at b u
-  right-laid u lu = let s = size-le n u lu in at-part u (2 * size u + 1) lu (omega arith) ∙ out .laid u lu
+  right-laid : (u : ℕ) → u < 2 ^ n → at (take used ys) (u * width n + 1) ≡ at b u
+  right-laid u lu = at-part u 1 lu (omega arith) ∙ out .laid u lu
 
   pub part-fits : used ≤ length ys
   part-fits = omega (arith, same, ready .long)
@@ -144,15 +130,15 @@ module _ (m n : ℕ) (b r xs : List ℕ) (ready : FactorsReady m n b r xs) (ys :
         few = ready .few;
         room = omega arith;
         long = part-long ∙ all;
-        filled = λ u k lu lo hi.
+        filled = λ u r lu h.
             ⊎-elim
-            (λ (l : k < 2 * size u + 1).
-            let e : 2 * size u ≡ k = omega arith in
+            (λ (l : r < 1).
+            let e : 0 ≡ r = omega arith in
             subst (λ (t : ℕ). at (take used ys) (u * width n + t) < m) e (subst (λ (x : ℕ). x < m) (sym (left-kept u lu)) (ready .left-below u lu)))
-            (λ (g : 2 * size u + 1 ≤ k).
-            let e : 2 * size u + 1 ≡ k = omega arith in
+            (λ (g : 1 ≤ r).
+            let e : 1 ≡ r = omega arith in
             subst (λ (t : ℕ). at (take used ys) (u * width n + t) < m) e (subst (λ (x : ℕ). x < m) (sym (right-laid u lu)) (ready .right-below u lu)))
-            (below-or k (2 * size u + 1));
+            (below-or r 1);
       }
 
   ranked-residue : (A : List ℕ) (u k : ℕ) → at A u < m → size u ≡ k → at A u ≡ ranked (at A) u k % m
@@ -160,13 +146,13 @@ module _ (m n : ℕ) (b r xs : List ℕ) (ready : FactorsReady m n b r xs) (ys :
 
   right-factor : Factor m n 1 n 0 (take used ys) (ranked (at b))
   right-factor u k lu lo hi =
-      let e : size u ≡ k = omega arith in
-      subst (λ (t : ℕ). at (take used ys) (u * width n + (2 * t + 1)) ≡ ranked (at b) u k % m) e
-      (right-laid u lu ∙ ranked-residue b u k (ready .right-below u lu) e)
+      let e : 1 ≡ 2 * (size u + 0 - k) + 1 = omega arith in
+      subst (λ (t : ℕ). at (take used ys) (u * width n + t) ≡ ranked (at b) u k % m) e
+      (right-laid u lu ∙ ranked-residue b u k (ready .right-below u lu) (omega arith))
 
   left-factor : (A : List ℕ) → LaidLeft n A xs → Factor m n 0 n 0 (take used ys) (ranked (at A))
   left-factor A h u k lu lo hi =
-      let e : 2 * size u ≡ 2 * k + 0 = omega arith in
+      let e : 0 ≡ 2 * (size u + 0 - k) + 0 = omega arith in
       subst (λ (t : ℕ). at (take used ys) (u * width n + t) ≡ ranked (at A) u k % m) e
       (left-kept u lu ∙ h u lu ∙ ranked-residue A u k (subst (λ (x : ℕ). x < m) (h u lu) (ready .left-below u lu)) (omega arith))
 
@@ -176,11 +162,13 @@ module _ (m n : ℕ) (b r xs : List ℕ) (ready : FactorsReady m n b r xs) (ys :
       residues-of n m s (subsetSum n (at A) (at b)) s-long
       (λ u lu.
       let c = row-in u (2 ^ n) (width n) lu in
-      let d = size-le n u lu in
       let e = part-long in
-      read u lu ∙ List·getD-append l (drop used ys) 0 (u * width n + size u) (omega arith)
-      ∙ worked .product (ranked (at A)) (ranked (at b)) (ranked-ranks n (at A)) (ranked-ranks n (at b)) (left-factor A h) right-factor u (size u) lu
-      (omega arith) (omega arith) (omega arith)
+      let k : size u + 0 + 0 ≡ size u = omega arith in
+      let z : 2 * n ≡ 2 * n - 0 = omega arith in
+      read u lu ∙ List·getD-append l (drop used ys) 0 (u * width n + 2 * n) (omega arith) ∙ ap (λ (i : ℕ). at l (u * width n + i)) z
+      ∙ worked .product (ranked (at A)) (ranked (at b)) (ranked-ranks n (at A)) (ranked-ranks n (at b)) (left-factor A h) right-factor u 0 lu
+      (omega arith) (omega arith)
+      ∙ ap (λ (x : ℕ). cover n (ranked (at A)) (ranked (at b)) u x % m) k
       ∙ ap (λ (x : ℕ). x % m) (cover-ranked n (at A) (at b) u lu))
 
 -- a table laid out as the left factor

@@ -1,32 +1,36 @@
 -- One level of the recursion as its code goes: q controls, p below the top one, rows of w numbers, mid where the upper half starts.
 use mathlib.Core.Path.{_≡_, refl, sym, ap, subst, _∙_}
 use mathlib.Core.List.{List, _++_}
-use Prim.Native.Nat.{ℕ, zero, suc, _+_, _-_, _*_, _^_, _≤_, _<_, min}
+use Prim.Native.Nat.{ℕ, zero, suc, _+_, _-_, _*_, _^_, _≤_, _<_}
 use native.Mathlib.Numerals.{sub-one}
 use native.Mathlib.Omega.{arith}
 use lib.ListN.{length, take, drop, length-drop}
 use borrow.Rule.Slice.PartMut.{putMid}
 use Rattle.definitions.specs.Sets.{size}
-use Rattle.ranked_theory.specs.Rows.{Added, Subtracted, RowsStep, RowsReady, RowOfResidues, Multiplied}
+use Rattle.ranked_theory.specs.Rows.{Added, Subtracted, RowsStep, RowsReady, backFrom, backCount, RowOfResidues, Multiplied}
 use Rattle.ranked_theory.specs.Recursion.{width, Ready, Worked}
 use Rattle.ranked_theory.specs.Levels as level
 use Rattle.ranked_theory.specs.Halves.{first-length, both-length, second, joined}
 
 -- step (1) at this level
 abbrev pub Down : ℕ → ℕ → ℕ → ℕ → List ℕ → List ℕ → Type 0
-Down m p d w xs ys = RowsStep (λ u. Added m d (size u)) w (2 ^ p * w) (2 ^ p) xs ys
+Down m p d w xs ys = RowsStep (λ u. Added m d) 2 w (2 ^ p * w) (2 ^ p) xs ys
 
 -- step (2)
 abbrev pub Up : ℕ → ℕ → ℕ → ℕ → ℕ → List ℕ → List ℕ → Type 0
-Up m n p d w xs ys = RowsStep (λ u. Subtracted m (n - p - d) (size u + d)) w (2 ^ p * w) (2 ^ p) xs ys
+Up m n p d w xs ys = RowsStep (λ u. Subtracted m w (n - p - d) (size u + d)) 1 w (2 ^ p * w) (2 ^ p) xs ys
+
+abbrev pub UpReady : ℕ → ℕ → ℕ → ℕ → ℕ → List ℕ → Type 0
+UpReady m n p d w xs = RowsReady m 1 (λ u. backFrom w (n - p - d) (size u + d)) (λ u. backCount (n - p - d) (size u + d)) w p xs
 
 pub record Level (m n q p d mid w : ℕ) (xs : List ℕ) : Type 0 where
   pub long : length xs ≡ mid + mid
-  pub down-ready : RowsReady m (λ u. 2 * size u + 2) (λ u. 2 * d) w p xs
+  pub down-ready : RowsReady m 2 (λ u. 0) (λ u. 2 * d) w p xs
+  pub down-room : 2 * d + 4 ≤ w
   pub first-ready : (ys : List ℕ) → Down m p d w xs ys → length ys ≡ length xs → Ready m n p d (take mid ys)
   pub second-ready : (ys : List ℕ) → Down m p d w xs ys → length ys ≡ length xs → Ready m n p (d + 1) (drop mid ys)
   pub up-ready : (ys l k : List ℕ) → Down m p d w xs ys → length ys ≡ length xs → Worked m n p d (take mid ys) l → Worked m n p (d + 1) (drop mid ys) k
-      → length l ≡ mid → length k ≡ mid → RowsReady m (λ u. size u + d) (λ u. min (n - p - d) (size u + d) + 1) w p (l ++ k)
+      → length l ≡ mid → length k ≡ mid → UpReady m n p d w (l ++ k)
   pub up : (ys l k zs : List ℕ) → Down m p d w xs ys → length ys ≡ length xs → Worked m n p d (take mid ys) l → Worked m n p (d + 1) (drop mid ys) k
       → length l ≡ mid → length k ≡ mid → Up m n p d w (l ++ k) zs → Worked m n q d xs zs
 
@@ -35,6 +39,7 @@ level-of m n p d xs pos ready =
     record {
       long = level.long m n p d pos xs ready;
       down-ready = level.down-ready m n p d pos xs ready;
+      down-room = level.down-room m n p d pos xs ready;
       first-ready = level.first-ready m n p d pos xs ready;
       second-ready = level.second-ready m n p d pos xs ready;
       up-ready = λ ys l k down same. level.up-ready m n p d pos xs ready ys down same l k;
@@ -97,10 +102,8 @@ module _ (m n q p d mid w : ℕ) (xs : List ℕ) (level : Level m n q p d mid w 
       whole : putMid mid (length between - mid) between k ≡ l ++ k
       whole = joined mid ys l ys-long kept k
 
-      pub back-ready : RowsReady m (λ u. size u + d) (λ u. min (n - p - d) (size u + d) + 1) w p (putMid mid (length between - mid) between k)
-      back-ready =
-          subst (RowsReady m (λ u. size u + d) (λ u. min (n - p - d) (size u + d) + 1) w p) (sym whole)
-          (level .up-ready ys l k down same first after l-long k-long)
+      pub back-ready : UpReady m n p d w (putMid mid (length between - mid) between k)
+      back-ready = subst (UpReady m n p d w) (sym whole) (level .up-ready ys l k down same first after l-long k-long)
 
       pub done : (zs : List ℕ) → Up m n p d w (putMid mid (length between - mid) between k) zs → Worked m n q d xs zs
       done zs up = level .up ys l k zs down same first after l-long k-long (subst (λ (v : List ℕ). Up m n p d w v zs) whole up)

@@ -48,18 +48,18 @@ ranked-product-mul-mid : (t : ℕ) → ranked-product-lts.Need-mul-mid (multiply
 ranked-product-mul-mid t c = omega (arith, level t c .long)
 
 ranked-product-add-lower-requires : (t : ℕ) → ranked-product-lts.Need-add-lower-requires (multiply-row-reads.Asked, multiply-row-reads.Learnt, row-width-reads.Asked, row-width-reads.Learnt, power-of-two-reads.Asked, power-of-two-reads.Learnt, add-lower-reads.Asked, add-lower-reads.Learnt, ranked-product-below t, ranked-product.Post, subtract-lower-reads.Asked, subtract-lower-reads.Learnt) (ranked-product-at t) ranked-product.Post
-ranked-product-add-lower-requires t c κs = (c .before .before .before .before .before .pre .1 .0, (c .before .before .before .before .before .pre .1 .1 .0, level t (c .before) .down-ready))
+ranked-product-add-lower-requires t c κs = (c .before .before .before .before .before .pre .1 .0, (level t (c .before) .down-ready, level t (c .before) .down-room))
 
 ranked-product-slice-relend-prefix-ranked-product : (t : ℕ) → ranked-product-lts.Need-slice-relend-prefix-ranked-product (multiply-row-reads.Asked, multiply-row-reads.Learnt, row-width-reads.Asked, row-width-reads.Learnt, power-of-two-reads.Asked, power-of-two-reads.Learnt, add-lower-reads.Asked, add-lower-reads.Learnt, ranked-product-below t, ranked-product.Post, subtract-lower-reads.Asked, subtract-lower-reads.Learnt) (ranked-product-at t) ranked-product.Post
-ranked-product-slice-relend-prefix-ranked-product t c = turns.mid-fits _ _ _ _ _ _ _ _ (level t (c .before .before .before .before)) _ (c .before .before .add-lower .ensures) (c .before .before .add-lower .kept .1 .1 .1 .1 .1 .0)
+ranked-product-slice-relend-prefix-ranked-product t c = turns.mid-fits _ _ _ _ _ _ _ _ (level t (c .before .before .before .before)) _ (c .before .before .add-lower .ensures) (c .before .before .add-lower .kept .1 .1 .1 .1 .0)
 
 ranked-product-slice-aggregate-ranked-product : (t : ℕ) → ranked-product-lts.Need-slice-aggregate-ranked-product (multiply-row-reads.Asked, multiply-row-reads.Learnt, row-width-reads.Asked, row-width-reads.Learnt, power-of-two-reads.Asked, power-of-two-reads.Learnt, add-lower-reads.Asked, add-lower-reads.Learnt, ranked-product-below t, ranked-product.Post, subtract-lower-reads.Asked, subtract-lower-reads.Learnt) (ranked-product-at t) ranked-product.Post
-ranked-product-slice-aggregate-ranked-product t c = sym (turns.first-long _ _ _ _ _ _ _ _ (level t (c .before .before .before .before .before)) _ (c .before .before .before .add-lower .ensures) (c .before .before .before .add-lower .kept .1 .1 .1 .1 .1 .0))
+ranked-product-slice-aggregate-ranked-product t c = sym (turns.first-long _ _ _ _ _ _ _ _ (level t (c .before .before .before .before .before)) _ (c .before .before .before .add-lower .ensures) (c .before .before .before .add-lower .kept .1 .1 .1 .1 .0))
 
 ranked-product-ranked-product-requires : (t : ℕ) → ranked-product-lts.Need-ranked-product-requires (multiply-row-reads.Asked, multiply-row-reads.Learnt, row-width-reads.Asked, row-width-reads.Learnt, power-of-two-reads.Asked, power-of-two-reads.Learnt, add-lower-reads.Asked, add-lower-reads.Learnt, ranked-product-below t, ranked-product.Post, subtract-lower-reads.Asked, subtract-lower-reads.Learnt) (ranked-product-at t) ranked-product.Post
 ranked-product-ranked-product-requires t c κs =
     let s = c .before .before .before .before .before .before .before .before .before in
-    (omega (arith, s .pre .0, c .before .before .before .before .before .before .before .if1 .left), (s .pre .1 .0, (s .pre .1 .1 .0, level t (c .before .before .before .before .before) .first-ready _ (c .before .before .before .add-lower .ensures) (c .before .before .before .add-lower .kept .1 .1 .1 .1 .1 .0))))
+    (omega (arith, s .pre .0, c .before .before .before .before .before .before .before .if1 .left), (s .pre .1 .0, (s .pre .1 .1 .0, level t (c .before .before .before .before .before) .first-ready _ (c .before .before .before .add-lower .ensures) (c .before .before .before .add-lower .kept .1 .1 .1 .1 .0))))
 
 ranked-product-add-t14 : (t : ℕ) → ranked-product-lts.Need-add-t14 (multiply-row-reads.Asked, multiply-row-reads.Learnt, row-width-reads.Asked, row-width-reads.Learnt, power-of-two-reads.Asked, power-of-two-reads.Learnt, add-lower-reads.Asked, add-lower-reads.Learnt, ranked-product-below t, ranked-product.Post, subtract-lower-reads.Asked, subtract-lower-reads.Learnt) (ranked-product-at t) ranked-product.Post
 ranked-product-add-t14 t c = search needs
@@ -68,10 +68,10 @@ ranked-product-mul-ranked-product : (t : ℕ) → ranked-product-lts.Need-mul-ra
 ranked-product-mul-ranked-product t c = omega (arith, level t (c .before .before .before .before .before .before .before .before .before) .long, c .before .before .before .before .before .before .before .before .before .before .before .before .before .good)
 
 ranked-product-sub-ranked-product : (t : ℕ) → ranked-product-lts.Need-sub-ranked-product (multiply-row-reads.Asked, multiply-row-reads.Learnt, row-width-reads.Asked, row-width-reads.Learnt, power-of-two-reads.Asked, power-of-two-reads.Learnt, add-lower-reads.Asked, add-lower-reads.Learnt, ranked-product-below t, ranked-product.Post, subtract-lower-reads.Asked, subtract-lower-reads.Learnt) (ranked-product-at t) ranked-product.Post
-ranked-product-sub-ranked-product t c = turns.mid-in _ _ _ _ _ _ _ _ (level t (c .before .before .before .before .before .before .before .before .before)) _ (c .before .before .before .before .before .before .before .add-lower .ensures) (c .before .before .before .before .before .before .before .add-lower .kept .1 .1 .1 .1 .1 .0) (c .before .before .before .ranked-product .last .1 .1 .1 .1 .1 .0) (c .before .before .before .ranked-product .kept .1 .1 .1 .1 .1 .0)
+ranked-product-sub-ranked-product t c = turns.mid-in _ _ _ _ _ _ _ _ (level t (c .before .before .before .before .before .before .before .before .before)) _ (c .before .before .before .before .before .before .before .add-lower .ensures) (c .before .before .before .before .before .before .before .add-lower .kept .1 .1 .1 .1 .0) (c .before .before .before .ranked-product .last .1 .1 .1 .1 .1 .0) (c .before .before .before .ranked-product .kept .1 .1 .1 .1 .1 .0)
 
 ranked-product-part-ranked-product-start : (t : ℕ) → ranked-product-lts.Need-part-ranked-product-start (multiply-row-reads.Asked, multiply-row-reads.Learnt, row-width-reads.Asked, row-width-reads.Learnt, power-of-two-reads.Asked, power-of-two-reads.Learnt, add-lower-reads.Asked, add-lower-reads.Learnt, ranked-product-below t, ranked-product.Post, subtract-lower-reads.Asked, subtract-lower-reads.Learnt) (ranked-product-at t) ranked-product.Post
-ranked-product-part-ranked-product-start t c = turns.mid-in _ _ _ _ _ _ _ _ (level t (c .before .before .before .before .before .before .before .before .before)) _ (c .before .before .before .before .before .before .before .add-lower .ensures) (c .before .before .before .before .before .before .before .add-lower .kept .1 .1 .1 .1 .1 .0) (c .before .before .before .ranked-product .last .1 .1 .1 .1 .1 .0) (c .before .before .before .ranked-product .kept .1 .1 .1 .1 .1 .0)
+ranked-product-part-ranked-product-start t c = turns.mid-in _ _ _ _ _ _ _ _ (level t (c .before .before .before .before .before .before .before .before .before)) _ (c .before .before .before .before .before .before .before .add-lower .ensures) (c .before .before .before .before .before .before .before .add-lower .kept .1 .1 .1 .1 .0) (c .before .before .before .ranked-product .last .1 .1 .1 .1 .1 .0) (c .before .before .before .ranked-product .kept .1 .1 .1 .1 .1 .0)
 
 ranked-product-part-ranked-product-end : (t : ℕ) → ranked-product-lts.Need-part-ranked-product-end (multiply-row-reads.Asked, multiply-row-reads.Learnt, row-width-reads.Asked, row-width-reads.Learnt, power-of-two-reads.Asked, power-of-two-reads.Learnt, add-lower-reads.Asked, add-lower-reads.Learnt, ranked-product-below t, ranked-product.Post, subtract-lower-reads.Asked, subtract-lower-reads.Learnt) (ranked-product-at t) ranked-product.Post
 ranked-product-part-ranked-product-end t c = search needs
@@ -79,7 +79,7 @@ ranked-product-part-ranked-product-end t c = search needs
 ranked-product-ranked-product-requires-2 : (t : ℕ) → ranked-product-lts.Need-ranked-product-requires-2 (multiply-row-reads.Asked, multiply-row-reads.Learnt, row-width-reads.Asked, row-width-reads.Learnt, power-of-two-reads.Asked, power-of-two-reads.Learnt, add-lower-reads.Asked, add-lower-reads.Learnt, ranked-product-below t, ranked-product.Post, subtract-lower-reads.Asked, subtract-lower-reads.Learnt) (ranked-product-at t) ranked-product.Post
 ranked-product-ranked-product-requires-2 t c κs =
     let s = c .before .before .before .before .before .before .before .before .before .before .before .before .before .before in
-    (omega (arith, s .pre .0, c .before .before .before .before .before .before .before .before .before .before .before .before .if1 .left), (s .pre .1 .0, (s .pre .1 .1 .0, turns.lent-ready _ _ _ _ _ _ _ _ (level t (c .before .before .before .before .before .before .before .before .before .before)) _ (c .before .before .before .before .before .before .before .before .add-lower .ensures) (c .before .before .before .before .before .before .before .before .add-lower .kept .1 .1 .1 .1 .1 .0) (c .before .before .before .before .ranked-product .last .1 .1 .1 .1 .1 .0) (c .before .before .before .before .ranked-product .kept .1 .1 .1 .1 .1 .0))))
+    (omega (arith, s .pre .0, c .before .before .before .before .before .before .before .before .before .before .before .before .if1 .left), (s .pre .1 .0, (s .pre .1 .1 .0, turns.lent-ready _ _ _ _ _ _ _ _ (level t (c .before .before .before .before .before .before .before .before .before .before)) _ (c .before .before .before .before .before .before .before .before .add-lower .ensures) (c .before .before .before .before .before .before .before .before .add-lower .kept .1 .1 .1 .1 .0) (c .before .before .before .before .ranked-product .last .1 .1 .1 .1 .1 .0) (c .before .before .before .before .ranked-product .kept .1 .1 .1 .1 .1 .0))))
 
 ranked-product-sub-t23 : (t : ℕ) → ranked-product-lts.Need-sub-t23 (multiply-row-reads.Asked, multiply-row-reads.Learnt, row-width-reads.Asked, row-width-reads.Learnt, power-of-two-reads.Asked, power-of-two-reads.Learnt, add-lower-reads.Asked, add-lower-reads.Learnt, ranked-product-below t, ranked-product.Post, subtract-lower-reads.Asked, subtract-lower-reads.Learnt) (ranked-product-at t) ranked-product.Post
 ranked-product-sub-t23 t c = search needs
@@ -90,7 +90,7 @@ ranked-product-sub-t21 t c = search needs
 ranked-product-subtract-lower-requires : (t : ℕ) → ranked-product-lts.Need-subtract-lower-requires (multiply-row-reads.Asked, multiply-row-reads.Learnt, row-width-reads.Asked, row-width-reads.Learnt, power-of-two-reads.Asked, power-of-two-reads.Learnt, add-lower-reads.Asked, add-lower-reads.Learnt, ranked-product-below t, ranked-product.Post, subtract-lower-reads.Asked, subtract-lower-reads.Learnt) (ranked-product-at t) ranked-product.Post
 ranked-product-subtract-lower-requires t c κs =
     let s = c .before .before .before .before .before .before .before .before .before .before .before .before .before .before .before .before .before .before .before in
-    (s .pre .1 .0, (s .pre .1 .1 .0, turns.back-ready _ _ _ _ _ _ _ _ (level t (c .before .before .before .before .before .before .before .before .before .before .before .before .before .before .before)) _ (c .before .before .before .before .before .before .before .before .before .before .before .before .before .add-lower .ensures) (c .before .before .before .before .before .before .before .before .before .before .before .before .before .add-lower .kept .1 .1 .1 .1 .1 .0) _ (c .before .before .before .before .before .before .before .before .before .ranked-product .kept .1 .1 .1 .1 .1 .0) (c .before .before .before .before .before .before .before .before .before .ranked-product .ensures) _ (c .before .before .before .before .ranked-product2 .ensures) (c .before .before .before .before .ranked-product2 .kept .1 .1 .1 .1 .1 .0)))
+    (s .pre .1 .0, (s .pre .1 .1 .0, (turns.back-ready _ _ _ _ _ _ _ _ (level t (c .before .before .before .before .before .before .before .before .before .before .before .before .before .before .before)) _ (c .before .before .before .before .before .before .before .before .before .before .before .before .before .add-lower .ensures) (c .before .before .before .before .before .before .before .before .before .before .before .before .before .add-lower .kept .1 .1 .1 .1 .0) _ (c .before .before .before .before .before .before .before .before .before .ranked-product .kept .1 .1 .1 .1 .1 .0) (c .before .before .before .before .before .before .before .before .before .ranked-product .ensures) _ (c .before .before .before .before .ranked-product2 .ensures) (c .before .before .before .before .ranked-product2 .kept .1 .1 .1 .1 .1 .0), omega (arith, s .pre .1 .1 .1 .room, s .pre .1 .1 .1 .few))))
 
 ranked-product-same-length : (t : ℕ) → ranked-product-lts.Need-same-length (multiply-row-reads.Asked, multiply-row-reads.Learnt, row-width-reads.Asked, row-width-reads.Learnt, power-of-two-reads.Asked, power-of-two-reads.Learnt, add-lower-reads.Asked, add-lower-reads.Learnt, ranked-product-below t, ranked-product.Post, subtract-lower-reads.Asked, subtract-lower-reads.Learnt) (ranked-product-at t) ranked-product.Post
 ranked-product-same-length t c = search needs
@@ -104,7 +104,7 @@ ranked-product-same-length-2 : (t : ℕ) → ranked-product-lts.Need-same-length
 ranked-product-same-length-2 t c = search needs
 
 ranked-product-returns-2 : (t : ℕ) → ranked-product-lts.Need-returns-2 (multiply-row-reads.Asked, multiply-row-reads.Learnt, row-width-reads.Asked, row-width-reads.Learnt, power-of-two-reads.Asked, power-of-two-reads.Learnt, add-lower-reads.Asked, add-lower-reads.Learnt, ranked-product-below t, ranked-product.Post, subtract-lower-reads.Asked, subtract-lower-reads.Learnt) (ranked-product-at t) ranked-product.Post
-ranked-product-returns-2 t c = turns.done _ _ _ _ _ _ _ _ (level t (c .before .before .before .before .before .before .before .before .before .before .before .before .before .before .before .before .before .before)) _ (c .before .before .before .before .before .before .before .before .before .before .before .before .before .before .before .before .add-lower .ensures) (c .before .before .before .before .before .before .before .before .before .before .before .before .before .before .before .before .add-lower .kept .1 .1 .1 .1 .1 .0) _ (c .before .before .before .before .before .before .before .before .before .before .before .before .ranked-product .kept .1 .1 .1 .1 .1 .0) (c .before .before .before .before .before .before .before .before .before .before .before .before .ranked-product .ensures) _ (c .before .before .before .before .before .before .before .ranked-product2 .ensures) (c .before .before .before .before .before .before .before .ranked-product2 .kept .1 .1 .1 .1 .1 .0) _ (c .before .before .subtract-lower .ensures)
+ranked-product-returns-2 t c = turns.done _ _ _ _ _ _ _ _ (level t (c .before .before .before .before .before .before .before .before .before .before .before .before .before .before .before .before .before .before)) _ (c .before .before .before .before .before .before .before .before .before .before .before .before .before .before .before .before .add-lower .ensures) (c .before .before .before .before .before .before .before .before .before .before .before .before .before .before .before .before .add-lower .kept .1 .1 .1 .1 .0) _ (c .before .before .before .before .before .before .before .before .before .before .before .before .ranked-product .kept .1 .1 .1 .1 .1 .0) (c .before .before .before .before .before .before .before .before .before .before .before .before .ranked-product .ensures) _ (c .before .before .before .before .before .before .before .ranked-product2 .ensures) (c .before .before .before .before .before .before .before .ranked-product2 .kept .1 .1 .1 .1 .1 .0) _ (c .before .before .subtract-lower .ensures)
 
 pub +ranked-product-spec : {M : Type 1} → statement M
 +ranked-product-spec = close μ-ranked-product λ t. ranked-product-lts.spec (multiply-row-reads.Asked, multiply-row-reads.Learnt, row-width-reads.Asked, row-width-reads.Learnt, power-of-two-reads.Asked, power-of-two-reads.Learnt, add-lower-reads.Asked, add-lower-reads.Learnt, ranked-product-below t, ranked-product.Post, subtract-lower-reads.Asked, subtract-lower-reads.Learnt) (ranked-product-at t) ranked-product.Post

@@ -1,30 +1,31 @@
-use borrow.Author.Needs.{needs}
 use mathlib.Core.Path.{ap}
-use Prim.Native.Nat.{ℕ, _+_, _-_, _*_}
+use Prim.Native.Nat.{ℕ, _-_, _*_}
 use native.Mathlib.Omega.{arith}
-use Rattle.definitions.specs.Sets.{size}
 use Rattle.ranked_theory.specs.Rows.{Added}
 use Rattle.ranked_theory.specs.RowSteps.{Passing, passing-none, passing-ready, passing-more, passing-all}
+use borrow.Author.Needs.{needs}
 use Rattle.ranked.proofs.add_lower.Statement.{statement}
 use Rattle.ranked.proofs.add_lower.Tie as tie
 
 abbrev Inv-loop : tie.InvT-loop
-Inv-loop modulus sizes p d w rows₀ half mid u₀ rows u = Passing (λ v. Added (modulus .value) (d .0) (size v)) w p half mid rows₀ rows u
+Inv-loop modulus p d w rows₀ half mid u₀ rows u = Passing (λ v. Added (modulus .value) (d .0)) 2 w p half mid rows₀ rows u
 
 abbrev μ-loop : tie.MeasureT-loop
-μ-loop modulus sizes p d w rows₀ half mid u₀ rows u = half - u
+μ-loop modulus p d w rows₀ half mid u₀ rows u = half - u
 
 power-of-two-requires : tie.Need-power-of-two-requires Inv-loop μ-loop
 power-of-two-requires c κs = search needs
 
 mul-mid : tie.Need-mul-mid Inv-loop μ-loop
-mul-mid c = omega (arith, ap (λ (x : ℕ). x * c .before .before .args .w) (c .power-of-two .ensures), c .before .before .pre .1 .1 .long)
+mul-mid c = omega (arith, ap (λ (x : ℕ). x * c .before .before .args .w) (c .power-of-two .ensures), c .before .before .pre .1 .0 .long)
 
 loop-holds : tie.Need-loop-holds Inv-loop μ-loop
-loop-holds c = passing-none _ _ _ _ _ (c .power-of-two .ensures)
+loop-holds c = passing-none _ _ _ _ _ _ (c .power-of-two .ensures)
 
 add-row-requires : tie.Need-add-row-requires Inv-loop μ-loop
-add-row-requires c κs = (c .before .before .before .before .before .pre .0, (c .before .before .before .before .before .pre .1 .0, passing-ready _ (λ u. 2 * size u + 2) (λ u. 2 * c .before .before .before .before .before .args .d .0) (c .before .before .before .before .before .pre .1 .1) (c .before .before .loop .inv) (c .before .loop-test .taken)))
+add-row-requires c κs =
+    let s = c .before .before .before .before .before in
+    (s .pre .0, (passing-ready _ (λ u. 0) (λ u. 2 * s .args .d .0) (s .pre .1 .0) (c .before .before .loop .inv) (c .before .loop-test .taken), s .pre .1 .1))
 
 add-u : tie.Need-add-u Inv-loop μ-loop
 add-u c = search needs
@@ -33,7 +34,7 @@ loop-less : tie.Need-loop-less Inv-loop μ-loop
 loop-less c = search needs
 
 loop-again : tie.Need-loop-again Inv-loop μ-loop
-loop-again c = passing-more (c .before .before .before .before .before .loop .inv) (c .before .before .before .before .loop-test .taken) (c .before .before .add-row .ensures) (c .before .before .add-row .kept .1 .1 .1 .1 .1 .1 .0)
+loop-again c = passing-more (c .before .before .before .before .before .loop .inv) (c .before .before .before .before .loop-test .taken) (c .before .before .add-row .ensures) (c .before .before .add-row .kept .1 .1 .1 .1 .1 .0)
 
 same-length : tie.Need-same-length Inv-loop μ-loop
 same-length c = c .before .loop .inv .long

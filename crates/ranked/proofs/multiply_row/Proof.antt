@@ -1,43 +1,93 @@
-use mathlib.Core.Path.{refl, ap}
-use Prim.Native.Nat.{ℕ, _+_, _-_}
+use mathlib.Core.Path.{_∙_}
+use Prim.Native.Nat.{_+_, _-_, _*_, _≤_}
 use native.Mathlib.Omega.{arith}
-use Rattle.ranked_theory.specs.Places.{placed-as}
+use lib.ListN.{length-set}
+use Rattle.ranked_theory.specs.Leaf.{Multiplying, multiplying-none, multiplying-more, multiplying-all, ranks-below}
 use borrow.Author.Needs.{needs}
 use Rattle.ranked.proofs.multiply_row.Statement.{statement}
 use Rattle.ranked.proofs.multiply_row.Tie as tie
 
-sub-t8 : tie.Need-sub-t8
-sub-t8 c = search needs
+abbrev Inv-loop : tie.InvT-loop
+Inv-loop n modulus d row₀ more last e₀ row e = Multiplying (modulus .value) n (d .0) row₀ row e
 
-lesser-requires : tie.Need-lesser-requires
+abbrev μ-loop : tie.MeasureT-loop
+μ-loop n modulus d row₀ more last e₀ row e = more .0 + 1 - e
+
+sub-row : tie.Need-sub-row Inv-loop μ-loop
+sub-row c = search needs
+
+lesser-requires : tie.Need-lesser-requires Inv-loop μ-loop
 lesser-requires c κs = search needs
 
-add-count : tie.Need-add-count
-add-count c = search needs
+mul-last : tie.Need-mul-last Inv-loop μ-loop
+mul-last c = search needs
 
-product-ranks-requires : tie.Need-product-ranks-requires
-product-ranks-requires c κs =
-    let s = c .before .before .before .before .before .before in
-    let r = s .pre .1 in
-    (s .pre .0, (record { few = omega (arith, r .few, r .deep); deep = omega arith; long = omega (arith, r .long, r .deep); below = r .below }, (omega (arith, c .before .before .before .lesser .ensures), refl)))
+loop-holds : tie.Need-loop-holds Inv-loop μ-loop
+loop-holds c = multiplying-none _ _ _ _ (c .before .before .before .pre .1)
 
-store-ranks-requires : tie.Need-store-ranks-requires
-store-ranks-requires c κs = search needs
+sub-place : tie.Need-sub-place Inv-loop μ-loop
+sub-place c = omega (arith, c .if1 .taken, c .before .before .before .lesser .ensures, c .before .before .before .before .before .before .pre .1 .deep)
 
-same-length : tie.Need-same-length
-same-length c = search needs
+product-rank-requires : tie.Need-product-rank-requires Inv-loop μ-loop
+product-rank-requires c κs =
+    let s = c .before .before .before .before .before .before .before in
+    let less : c .before .before .before .loop .e ≤ s .args .d .0 = omega (arith, c .before .if1 .taken, c .before .before .before .before .lesser .ensures) in
+    (s .pre .0, (less, ranks-below _ _ _ _ (s .pre .1) _ _ (c .before .before .before .loop .inv) less))
 
-returns : tie.Need-returns
-returns c = placed-as (c .before .before .store-ranks .ensures) (ap (λ (k : ℕ). k + 1) (c .before .before .before .before .before .before .before .before .before .lesser .ensures)) (λ e l. c .before .before .before .before .before .product-ranks .ensures e l)
+mul-row : tie.Need-mul-row Inv-loop μ-loop
+mul-row c = omega (arith, c .before .before .before .before .loop .inv .long, c .before .before .before .before .before .before .before .before .pre .1 .long)
+
+slice-write-row : tie.Need-slice-write-row Inv-loop μ-loop
+slice-write-row c = omega (arith, c .before .before .before .before .loop .inv .long, c .before .before .before .before .before .before .before .before .pre .1 .long)
+
+add-e : tie.Need-add-e Inv-loop μ-loop
+add-e c = search needs
+
+loop-less : tie.Need-loop-less Inv-loop μ-loop
+loop-less c = omega (arith, c .before .before .if1 .taken)
+
+loop-again : tie.Need-loop-again Inv-loop μ-loop
+loop-again c =
+    let s = c .before .before .before .before .before .before .before .before in
+    let v = c .before .before .before .before .loop in
+    let taken = c .before .before .if1 .taken in
+    let most = c .before .before .before .before .before .lesser .ensures in
+    multiplying-more _ _ _ _ (s .pre .1) _ _ (v .inv) (omega (arith, taken, most)) (omega (arith, taken, most)) _ (c .product-rank .ensures .same)
+
+add-before : tie.Need-add-before Inv-loop μ-loop
+add-before c = search needs
+
+mul-row-2 : tie.Need-mul-row-2 Inv-loop μ-loop
+mul-row-2 c = omega (arith, c .before .before .loop .inv .long, c .before .before .before .before .before .before .pre .1 .long)
+
+slice-write-row-2 : tie.Need-slice-write-row-2 Inv-loop μ-loop
+slice-write-row-2 c = omega (arith, c .before .before .loop .inv .long, c .before .before .before .before .before .before .pre .1 .long)
+
+same-length : tie.Need-same-length Inv-loop μ-loop
+same-length c = length-set (c .before .before .loop .row) (2 * c .before .before .before .before .before .before .args .n + 1) 0 ∙ c .before .before .loop .inv .long
+
+returns : tie.Need-returns Inv-loop μ-loop
+returns c = multiplying-all _ _ _ _ (c .before .before .before .before .before .before .pre .1) _ _ (c .before .before .loop .inv) (omega (arith, c .if1 .left, c .before .before .before .lesser .ensures))
 
 pub multiply-row-spec : {M : Type 1} → statement M
 multiply-row-spec =
     tie.close
     (tie.spec
-    sub-t8
+    Inv-loop
+    μ-loop
+    sub-row
     lesser-requires
-    add-count
-    product-ranks-requires
-    store-ranks-requires
+    mul-last
+    loop-holds
+    sub-place
+    product-rank-requires
+    mul-row
+    slice-write-row
+    add-e
+    loop-less
+    loop-again
+    add-before
+    mul-row-2
+    slice-write-row-2
     same-length
     returns)

@@ -1,15 +1,15 @@
-use borrow.Author.Needs.{needs}
 use mathlib.Core.Path.{ap}
-use Prim.Native.Nat.{ℕ, _+_, _-_, _*_, min}
+use Prim.Native.Nat.{ℕ, _+_, _-_, _*_}
 use native.Mathlib.Omega.{arith}
 use Rattle.definitions.specs.Sets.{size}
-use Rattle.ranked_theory.specs.Rows.{Subtracted}
+use Rattle.ranked_theory.specs.Rows.{Subtracted, backFrom, backCount}
 use Rattle.ranked_theory.specs.RowSteps.{Passing, passing-none, passing-ready, passing-more, passing-all}
+use borrow.Author.Needs.{needs}
 use Rattle.ranked.proofs.subtract_lower.Statement.{statement}
 use Rattle.ranked.proofs.subtract_lower.Tie as tie
 
 abbrev Inv-loop : tie.InvT-loop
-Inv-loop modulus sizes p d e w rows₀ half mid u₀ rows u = Passing (λ v. Subtracted (modulus .value) (e .0) (size v + d .0)) w p half mid rows₀ rows u
+Inv-loop modulus sizes p d e w rows₀ half mid u₀ rows u = Passing (λ v. Subtracted (modulus .value) w (e .0) (size v + d .0)) 1 w p half mid rows₀ rows u
 
 abbrev μ-loop : tie.MeasureT-loop
 μ-loop modulus sizes p d e w rows₀ half mid u₀ rows u = half - u
@@ -18,15 +18,16 @@ power-of-two-requires : tie.Need-power-of-two-requires Inv-loop μ-loop
 power-of-two-requires c κs = search needs
 
 mul-mid : tie.Need-mul-mid Inv-loop μ-loop
-mul-mid c = omega (arith, ap (λ (x : ℕ). x * c .before .before .args .w) (c .power-of-two .ensures), c .before .before .pre .1 .1 .long)
+mul-mid c = omega (arith, ap (λ (x : ℕ). x * c .before .before .args .w) (c .power-of-two .ensures), c .before .before .pre .1 .1 .0 .long)
 
 loop-holds : tie.Need-loop-holds Inv-loop μ-loop
-loop-holds c = passing-none _ _ _ _ _ (c .power-of-two .ensures)
+loop-holds c = passing-none _ _ _ _ _ _ (c .power-of-two .ensures)
 
 subtract-row-requires : tie.Need-subtract-row-requires Inv-loop μ-loop
 subtract-row-requires c κs =
     let s = c .before .before .before .before .before in
-    (s .pre .0, (s .pre .1 .0, passing-ready _ (λ u. size u + s .args .d .0) (λ u. min (s .args .e .0) (size u + s .args .d .0) + 1) (s .pre .1 .1) (c .before .before .loop .inv) (c .before .loop-test .taken)))
+    let a = s .args in
+    (s .pre .0, (s .pre .1 .0, (passing-ready _ (λ u. backFrom (a .w) (a .e .0) (size u + a .d .0)) (λ u. backCount (a .e .0) (size u + a .d .0)) (s .pre .1 .1 .0) (c .before .before .loop .inv) (c .before .loop-test .taken), s .pre .1 .1 .1)))
 
 add-u : tie.Need-add-u Inv-loop μ-loop
 add-u c = search needs
