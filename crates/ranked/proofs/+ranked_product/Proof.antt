@@ -8,11 +8,11 @@ use borrow.Fn.PlainCycle.{Measures, is, falls, and}
 use Rattle.ranked.proofs.ranked_product.Reads as ranked-product
 use Rattle.ranked.proofs.ranked_product.Kinds as ranked-product-kinds
 use Rattle.ranked.proofs.+ranked_product.Lts-ranked_product as ranked-product-lts
-use Rattle.ranked.proofs.add_lower.Reads as add-lower-reads
-use Rattle.ranked.proofs.multiply_row.Reads as multiply-row-reads
-use Rattle.ranked.proofs.power_of_two.Reads as power-of-two-reads
-use Rattle.ranked.proofs.row_width.Reads as row-width-reads
-use Rattle.ranked.proofs.subtract_lower.Reads as subtract-lower-reads
+use Rattle.ranked_rows.proofs.add_lower.Reads as add-lower-reads
+use Rattle.ranked_rows.proofs.multiply_row.Reads as multiply-row-reads
+use Rattle.ranked_rows.proofs.power_of_two.Reads as power-of-two-reads
+use Rattle.ranked_rows.proofs.row_width.Reads as row-width-reads
+use Rattle.ranked_rows.proofs.subtract_lower.Reads as subtract-lower-reads
 use Rattle.ranked.proofs.+ranked_product.{statement}
 use Rattle.ranked.proofs.+ranked_product.Tie.{close}
 

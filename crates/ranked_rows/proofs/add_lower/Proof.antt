@@ -4,8 +4,8 @@ use native.Mathlib.Omega.{arith}
 use Rattle.ranked_theory.specs.Rows.{Added}
 use Rattle.ranked_theory.specs.RowSteps.{Passing, passing-none, passing-ready, passing-more, passing-all}
 use borrow.Author.Needs.{needs}
-use Rattle.ranked.proofs.add_lower.Statement.{statement}
-use Rattle.ranked.proofs.add_lower.Tie as tie
+use Rattle.ranked_rows.proofs.add_lower.Statement.{statement}
+use Rattle.ranked_rows.proofs.add_lower.Tie as tie
 
 abbrev Inv-loop : tie.InvT-loop
 Inv-loop modulus p d w rows₀ half mid u₀ rows u = Passing (λ v. Added (modulus .value) (d .0)) 2 w p half mid rows₀ rows u

@@ -4,8 +4,8 @@ use native.Mathlib.Omega.{arith}
 use lib.ListN.{length-set}
 use Rattle.ranked_theory.specs.Leaf.{Multiplying, multiplying-none, multiplying-more, multiplying-all, ranks-below}
 use borrow.Author.Needs.{needs}
-use Rattle.ranked.proofs.multiply_row.Statement.{statement}
-use Rattle.ranked.proofs.multiply_row.Tie as tie
+use Rattle.ranked_rows.proofs.multiply_row.Statement.{statement}
+use Rattle.ranked_rows.proofs.multiply_row.Tie as tie
 
 abbrev Inv-loop : tie.InvT-loop
 Inv-loop n modulus d row₀ more last e₀ row e = Multiplying (modulus .value) n (d .0) row₀ row e

@@ -5,8 +5,8 @@ use Rattle.definitions.specs.Sets.{size}
 use Rattle.ranked_theory.specs.Rows.{Subtracted, backFrom, backCount}
 use Rattle.ranked_theory.specs.RowSteps.{Passing, passing-none, passing-ready, passing-more, passing-all}
 use borrow.Author.Needs.{needs}
-use Rattle.ranked.proofs.subtract_lower.Statement.{statement}
-use Rattle.ranked.proofs.subtract_lower.Tie as tie
+use Rattle.ranked_rows.proofs.subtract_lower.Statement.{statement}
+use Rattle.ranked_rows.proofs.subtract_lower.Tie as tie
 
 abbrev Inv-loop : tie.InvT-loop
 Inv-loop modulus sizes p d e w rows₀ half mid u₀ rows u = Passing (λ v. Subtracted (modulus .value) w (e .0) (size v + d .0)) 1 w p half mid rows₀ rows u

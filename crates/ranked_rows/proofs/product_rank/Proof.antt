@@ -5,8 +5,8 @@ use Rattle.definitions.specs.Sums.{sum}
 use Rattle.residues.specs.Accumulated.{Holds, holds-start, holds-added, holds-residue}
 use Rattle.ranked_theory.specs.Leaf.{term, sum-two, sum-one, sum-all}
 use borrow.Author.Needs.{needs}
-use Rattle.ranked.proofs.product_rank.Statement.{statement}
-use Rattle.ranked.proofs.product_rank.Tie as tie
+use Rattle.ranked_rows.proofs.product_rank.Statement.{statement}
+use Rattle.ranked_rows.proofs.product_rank.Tie as tie
 
 abbrev Inv-loop : tie.InvT-loop
 Inv-loop modulus row top total₀ j₀ total j = (j ≤ top + 1) × Holds modulus (sum j (term top row)) total

@@ -4,8 +4,8 @@ use native.Mathlib.Omega.{arith}
 use Rattle.theory.specs.Codes.{size-le}
 use Rattle.ranked_theory.specs.RowSteps as rows
 use borrow.Author.Needs.{needs}
-use Rattle.ranked.proofs.subtract_row.Statement.{statement}
-use Rattle.ranked.proofs.subtract_row.Tie as tie
+use Rattle.ranked_rows.proofs.subtract_row.Statement.{statement}
+use Rattle.ranked_rows.proofs.subtract_row.Tie as tie
 
 size-by-requires : tie.Need-size-by-requires
 size-by-requires c κs = (omega (arith, c .before .pre .1 .1 .0 .code), c .before .pre .1 .0)

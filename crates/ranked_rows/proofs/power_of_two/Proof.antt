@@ -4,8 +4,8 @@ use native.Mathlib.Omega.{arith}
 use lib.Dec.{lit<}
 use lib.Pow.{shl-exact}
 use borrow.Author.Needs.{needs}
-use Rattle.ranked.proofs.power_of_two.Statement.{statement}
-use Rattle.ranked.proofs.power_of_two.Tie as tie
+use Rattle.ranked_rows.proofs.power_of_two.Statement.{statement}
+use Rattle.ranked_rows.proofs.power_of_two.Tie as tie
 
 shl-result : tie.Need-shl-result
 shl-result c = search needs

@@ -2,8 +2,8 @@ use mathlib.Core.Path.{refl}
 use native.Mathlib.Omega.{arith}
 use Rattle.ranked_theory.specs.RowSteps as rows
 use borrow.Author.Needs.{needs}
-use Rattle.ranked.proofs.add_row.Statement.{statement}
-use Rattle.ranked.proofs.add_row.Tie as tie
+use Rattle.ranked_rows.proofs.add_row.Statement.{statement}
+use Rattle.ranked_rows.proofs.add_row.Tie as tie
 
 mul-low : tie.Need-mul-low
 mul-low c = search needs
