@@ -20,7 +20,7 @@ using Table = std::vector<u32>;
 const u32 PANELS[] = {8, 12, 14, 16};
 const u32 MODULI[] = {998244353, 1000000006, 2147483647, 2147483646};
 const int ROUNDS = 9;
-const double SAMPLE_SECONDS = 0.002;  // quick calls are repeated until a sample takes about this long
+const double SAMPLE_SECONDS = 0.03;  // calls are repeated until a sample takes about this long
 
 // What one round of all calls works on, for one panel and one modulus.
 struct Data {

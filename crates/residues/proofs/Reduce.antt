@@ -1,12 +1,13 @@
 -- How one comparison reduces a sum or a difference, and how large a product of two residues is.
 use mathlib.Core.Path.{_≡_, sym, _∙_, ap}
-use Prim.Native.Nat.{ℕ, _-_, _*_, _%_, _^_, _<_, _≤_}
+use Prim.Native.Nat.{ℕ, _+_, _-_, _*_, _%_, _^_, _<_, _≤_}
 use native.Mathlib.Nat.{mod-eq-of-lt, mod-eq-sub-mod, mul-le-mul, mod-lt}
 use native.Mathlib.Omega.{arith}
+use native.Mathlib.Decide.{decLt}
 use mir.Val.{Fits}
 use mir.Syntax.{w32}
 use Rattle.definitions.specs.Limits.{largestModulus}
-use Rattle.residues.specs.Moduli.{Below, Residue}
+use Rattle.residues.specs.Moduli.{Below, Residue, Back}
 
 pub reduced : (x m : ℕ) {r : ℕ} → r ≡ x → r < m → Residue m x r
 reduced x m e l = record { same = sym (mod-eq-of-lt l) ∙ ap (λ (k : ℕ). k % m) e; below = l }
@@ -25,3 +26,19 @@ product-below {m} {a} {b} h top =
     let y : b ≤ 2147483646 = omega arith in
     let p : a * b ≤ 2147483646 * 2147483646 = mul-le-mul x y in
     omega arith
+
+-- a + r - b, where r is m or nothing, as a needs it
+module _ (m a b r : ℕ) (h : Below m a b) (back : Back m a b r) where
+  pub back-covers : b ≤ a + r
+  back-covers = elim (decLt a b) [ yes l ↦ omega (arith, back .short l) | no k ↦ omega arith ]
+
+  pub back-below : a + r - b < m
+  back-below =
+      elim (decLt a b) [ yes l ↦ omega (arith, back .short l) | no k ↦ omega (arith, back .enough (omega arith)) ]
+
+  pub back-residue : Residue m (a + (m - b)) (a + r - b)
+  back-residue =
+      elim (decLt a b) [
+        | yes l ↦ reduced _ _ (omega (arith, back .short l)) back-below
+        | no k ↦ once _ _ (omega arith) (omega (arith, back .enough (omega arith))) back-below
+      ]

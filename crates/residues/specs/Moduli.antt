@@ -43,6 +43,11 @@ pub record Residue (m x r : ℕ) : Type 0 where
   pub same : r ≡ x % m
   pub below : r < m
 
+-- with r added to a, b can be taken off: the modulus, or nothing
+pub record Back (m a b r : ℕ) : Type 0 where
+  pub short : a < b → r ≡ m
+  pub enough : b ≤ a → r ≡ 0
+
 -- k is the modulus m
 pub record MadeFrom (m : ℕ) (k : Modulus) : Type 0 where
   pub valid : Valid k

@@ -1,12 +1,10 @@
 // Residues: numbers modulo m. The modulus with its limits, sum, difference and product of two residues, sums of products
 // that are divided once, and reciprocals. What bounds the numbers inside is seen in this crate alone.
 ghost use mathlib.Core.Path.{_≡_};
-ghost use Prim.Native.Nat.{_+_, _-_, _*_, _<_, _≤_};
-ghost use Rattle.residues.specs.Moduli.{modulusOf, Valid, Below, Residue};
+ghost use Prim.Native.Nat.{_+_, _-_, _*_, _<_};
+ghost use Rattle.residues.specs.Moduli.{modulusOf, Valid, Below, Residue, Back};
 ghost use Rattle.residues.specs.Accumulated.{held, Sound, Started, Added, foldLimit, Folded};
 ghost use Rattle.residues.specs.Reciprocals.{ReciprocalIs, InRange, Next};
-use std::num::wrapping_add_u32;
-use std::num::wrapping_sub_u32;
 
 // Only `Modulus::new` makes one.
 pub struct Modulus {
@@ -78,36 +76,31 @@ impl Modulus {
         (x % m) as u32
     }
 
-    // a - b, for b up to the modulus: the modulus is added where the difference went below 0. No branch is left, and it holds
-    // under every modulus of 32 bits, since going round through 2 to the 32 and back loses nothing.
-    fn less(self, a: u32, b: u32) -> u32
-        requires { ⌜ a < self .value ⌝ }
-        requires { ⌜ b ≤ self .value ⌝ }
-        ensures { λ r. ⌜ Residue (self .value) (a + (self .value - b)) r ⌝ }
-    {
-        let left = wrapping_sub_u32(a, b);
-        if a < b {
-            wrapping_add_u32(left, self.value)
-        } else {
-            left
-        }
-    }
-
+    // The sum is compared before it is formed, so that it fits under every modulus of 32 bits.
     pub fn add(self, a: u32, b: u32) -> u32
         requires { ⌜ Valid self ⌝ }
         requires { ⌜ Below (self .value) a b ⌝ }
         ensures { λ r. ⌜ Residue (self .value) (a + b) r ⌝ }
     {
         let lacking = self.value - b;
-        self.less(a, lacking)
+        if a >= lacking { a - lacking } else { a + b }
     }
 
+    // What a needs so that b can be taken off it.
+    fn back(self, a: u32, b: u32) -> u32
+        ensures { λ r. ⌜ Back (self .value) a b r ⌝ }
+    {
+        if a < b { self.value } else { 0 }
+    }
+
+    // The one choice is made beside the difference, not behind it.
     pub fn subtract(self, a: u32, b: u32) -> u32
         requires { ⌜ Valid self ⌝ }
         requires { ⌜ Below (self .value) a b ⌝ }
         ensures { λ r. ⌜ Residue (self .value) (a + (self .value - b)) r ⌝ }
     {
-        self.less(a, b)
+        let up = (a as u64) + (self.back(a, b) as u64);
+        (up - (b as u64)) as u32
     }
 
     pub fn multiply(self, a: u32, b: u32) -> u32
