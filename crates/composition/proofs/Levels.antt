@@ -12,9 +12,8 @@ use Rattle.definitions.specs.Sums.{tabulate, at}
 use Rattle.definitions.specs.Partitions.{compositionSum, compositionTable}
 use Rattle.theory.specs.Lists.{filled, length-tabulate, at-tabulate, residues-of}
 use Rattle.theory.specs.Composition.{composition-empty}
-use Rattle.composition.specs.Ready.{Ready, RowReady}
+use Rattle.composition.specs.Ready.{Ready, RowReady, rows-mono}
 use Rattle.composition.specs.Slots.{from, Slots, Turned, TurnReady, LevelReady, LevelRaised}
-use Rattle.composition.proofs.Lower.{rows-mono}
 use Rattle.composition.proofs.Turns.{turned-old, turned-new}
 
 -- ---- room

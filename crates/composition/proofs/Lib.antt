@@ -1,6 +1,5 @@
 pub mod Parts
 pub mod Upper
-pub mod Lower
 pub mod Copies
 pub mod Places
 pub mod Turns

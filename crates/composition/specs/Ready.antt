@@ -1,17 +1,23 @@
 -- What the exponential and the composition are lent: a table of q controls, a result of as many entries, and a workspace
 -- (01: pad) with room for the rows of a product of one control less.
 use mathlib.Core.Path.{_≡_}
-use mathlib.Core.List.{List, _++_}
-use Prim.Native.Nat.{ℕ, suc, _*_, _^_, _<_, _≤_}
-use lib.ListN.{length, take, drop}
+use mathlib.Core.List.{List}
+use Prim.Native.Nat.{ℕ, _*_, _^_, _<_, _≤_}
+use native.Mathlib.Nat.{mul-le-mul}
+use native.Mathlib.Omega.{arith}
+use lib.Pow.{pow-mono}
+use lib.ListN.{length}
 use Rattle.definitions.specs.Limits.{mostControls}
 use Rattle.definitions.specs.Sums.{at}
-use Rattle.definitions.specs.Products.{subsetTable}
 use Rattle.ranked_theory.specs.Recursion.{width}
 
 -- room for the rows of a product of k controls
 abbrev pub rowsLength : ℕ → ℕ
 rowsLength k = 2 ^ k * width k
+
+-- more controls take more room
+pub rows-mono : (p q : ℕ) → p ≤ q → rowsLength p ≤ rowsLength q
+rows-mono p q h = mul-le-mul (pow-mono h) (omega arith)
 
 pub record Ready (q m : ℕ) (a r w : List ℕ) : Type 0 where
   pub few : q ≤ mostControls
@@ -24,16 +30,3 @@ pub record Ready (q m : ℕ) (a r w : List ℕ) : Type 0 where
 pub record RowReady (n m : ℕ) (f : List ℕ) : Type 0 where
   pub long : n < length f
   pub below : (k : ℕ) → k ≤ n → at f k < m
-
--- a table, a result and a workspace of p + 1 controls, with the lower half of the result finished
-pub record LowerDone (p m : ℕ) (a r w : List ℕ) : Type 0 where
-  pub few : suc p ≤ mostControls
-  pub long : length a ≡ 2 ^ suc p
-  pub below : (S : ℕ) → S < 2 ^ suc p → at a S < m
-  pub as-long : length r ≡ 2 ^ suc p
-  pub lower-below : (S : ℕ) → S < 2 ^ p → at r S < m
-  pub room : rowsLength p ≤ length w
-
--- the lower half of r, and its product with the upper half of a
-abbrev pub upperFilled : ℕ → ℕ → List ℕ → List ℕ → List ℕ
-upperFilled p m a r = take (2 ^ p) r ++ subsetTable p m (take (2 ^ p) r) (drop (2 ^ p) a)

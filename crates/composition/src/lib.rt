@@ -1,58 +1,24 @@
-// Exponential and composition of a table with a row, worked in the result and the workspace that they are lent.
+// The composition of a table with a row, worked in the result and the workspace that it is lent.
 ghost use mathlib.Core.Path.{_≡_};
 ghost use Prim.Native.Nat.{_+_, _*_, _^_, _≤_};
 ghost use lib.ListN.{length};
 ghost use Rattle.definitions.specs.Limits.{mostControls};
 ghost use Rattle.definitions.specs.Sums.{at};
-ghost use Rattle.definitions.specs.Partitions.{exponentialTable, compositionTable};
+ghost use Rattle.definitions.specs.Partitions.{compositionTable};
 ghost use Rattle.theory.specs.Lists.{filled};
 ghost use Rattle.residues.specs.Moduli.{Valid};
-ghost use Rattle.composition.specs.Ready.{Ready, RowReady, LowerDone, upperFilled};
+ghost use Rattle.composition.specs.Ready.{Ready, RowReady};
 ghost use Rattle.composition.specs.Slots.{CopyReady, Copied, SlotReady, SlotMultiplied, TurnReady, Turned, LevelReady, LevelRaised};
 use ranked::lay_out_left;
 use ranked::multiply_laid;
 use residues::Modulus;
 
 // How many entries a table of k controls has.
-fn power(k: usize) -> usize
+pub fn power(k: usize) -> usize
     requires { ⌜ k ≤ mostControls ⌝ }
     ensures { λ r. ⌜ r ≡ 2 ^ k ⌝ }
 {
     1 << k
-}
-
-// The upper half of the exponential: the product of the finished lower half, which is laid out first, and the table's
-// upper half.
-fn fill_upper(p: usize, modulus: Modulus, a: &[u32], result: &mut [u32], workspace: &mut [u32])
-    requires { ⌜ Valid modulus ⌝ }
-    requires { ⌜ LowerDone p (modulus .value) (now a) (now result) (now workspace) ⌝ }
-    ensures { λ _. ⌜ now (result .exit) ≡ upperFilled p (modulus .value) (now (a .entry)) (now (result .entry)) ⌝ }
-{
-    let mid = power(p);
-    lay_out_left(p, &result[..mid], workspace);
-    multiply_laid(p, modulus, &a[mid..], &mut result[mid..], workspace);
-}
-
-// The exponential of a table of q controls, by its halves.
-pub fn exponential_table(
-    q: usize,
-    modulus: Modulus,
-    a: &[u32],
-    result: &mut [u32],
-    workspace: &mut [u32],
-)
-    requires { ⌜ Valid modulus ⌝ }
-    requires { ⌜ Ready q (modulus .value) (now a) (now result) (now workspace) ⌝ }
-    ensures { λ _. ⌜ now (result .exit) ≡ exponentialTable q (modulus .value) (now (a .entry)) ⌝ }
-{
-    if q == 0 {
-        result[0] = 1;
-    } else {
-        let p = q - 1;
-        let mid = power(p);
-        exponential_table(p, modulus, &a[..mid], &mut result[..mid], workspace);
-        fill_upper(p, modulus, a, result, workspace);
-    }
 }
 
 // The table of so many numbers at one place of the result also stands at another: the same place, or one behind it.

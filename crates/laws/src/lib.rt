@@ -1,6 +1,6 @@
 // Demand 3: thirteen calls under one n and m, and what holds of their outcomes whatever the lent memory held.
 ghost use mathlib.Core.List.{[]};
-ghost use Rattle.laws.specs.Demand.{Inputs, Demand3};
+ghost use Rattle.laws_theory.specs.Demand.{Inputs, Demand3};
 
 // The number that each call returned.
 pub struct Numbers {

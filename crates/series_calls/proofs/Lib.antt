@@ -1,3 +1,2 @@
-pub mod Ends
 pub mod Inverting
 pub mod Logging

@@ -10,7 +10,7 @@ use Rattle.checks.specs.Accepted.{startNumber}
 use Rattle.checks.specs.Answers.{IsChecked}
 use Rattle.checks.specs.declared.Checked.{Checked}
 use Rattle.checks.specs.declared.Checked.the-variants.{Accepted}
-use Rattle.series_calls.proofs.Ends.{started, first-is}
+use Rattle.composition_calls.specs.Ends.{started, first-is}
 
 module _ (n m : ℕ) (e : List ℕ) (r p : ℕ) {modulus : Modulus} {answer : Checked} (h : IsChecked m (startNumber n m e r p 1) answer)
     (given : answer ≡ Accepted modulus) (l : List ℕ) (w : l ≡ logarithmOf n (modulus .value) e) where

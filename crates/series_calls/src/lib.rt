@@ -1,11 +1,9 @@
 // The public calls on set power series: exponential, composition with a row, inverse, logarithm. Each makes 01's tests, works
 // in the part of the pad that it may use, and clears that part once, at the end.
-pub mod compositions;
-pub mod exponentials;
 pub mod inverses;
 pub mod logarithms;
 
-pub use compositions::composition;
-pub use exponentials::exponential;
+pub use composition_calls::composition;
+pub use composition_calls::exponential;
 pub use inverses::inverse;
 pub use logarithms::logarithm;

@@ -1,4 +1,4 @@
-use Rattle.laws.specs.Theorem.{made, made-with, demand3}
+use Rattle.laws_theory.specs.Theorem.{made, made-with, demand3}
 use borrow.Author.Needs.{needs}
 use Rattle.laws.proofs.laws.Statement.{statement}
 use Rattle.laws.proofs.laws.Tie as tie

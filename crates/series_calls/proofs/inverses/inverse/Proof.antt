@@ -4,7 +4,7 @@ use denote.Ref.{now}
 use lib.ListN.{length}
 use borrow.Author.Needs.{needs}
 use Rattle.series_calls.proofs.Inverting.{checked, has-first, first-below, refused-early, divisor-shared, invertible, inverted, is-inverse}
-use Rattle.series_calls.proofs.Ends.{used-in, used-long, ready, clear-ready, pad-cleared}
+use Rattle.composition_calls.specs.Ends.{used-in, used-long, ready, clear-ready, pad-cleared}
 use Rattle.series_calls.specs.InverseTables.{inverseTable}
 use Rattle.checks.specs.Answers.{word-kept}
 use Rattle.definitions.specs.Refusals.{cleared}

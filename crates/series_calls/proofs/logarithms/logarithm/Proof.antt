@@ -3,7 +3,7 @@ use denote.Ref.{now}
 use lib.ListN.{length}
 use borrow.Author.Needs.{needs}
 use Rattle.series_calls.proofs.Logging.{logged, is-logarithm}
-use Rattle.series_calls.proofs.Ends.{started, start-zero, used-in, used-long, ready, clear-ready, pad-cleared}
+use Rattle.composition_calls.specs.Ends.{started, start-zero, used-in, used-long, ready, clear-ready, pad-cleared}
 use Rattle.checks.specs.Answers.{refused, word-kept}
 use Rattle.checks.specs.Accepted.{logarithm-number}
 use Rattle.theory.specs.Logarithm.{logarithmOf}

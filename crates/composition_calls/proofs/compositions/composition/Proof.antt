@@ -3,13 +3,13 @@ use Prim.Native.Nat.{ℕ}
 use denote.Ref.{now}
 use lib.ListN.{length}
 use borrow.Author.Needs.{needs}
-use Rattle.series_calls.proofs.Ends.{composed, composition-zero, row-ready, by-value, used-in, used-long, ready, clear-ready, pad-cleared}
+use Rattle.composition_calls.specs.Ends.{composed, composition-zero, row-ready, by-value, used-in, used-long, ready, clear-ready, pad-cleared}
 use Rattle.checks.specs.Answers.{refused, word-kept}
 use Rattle.definitions.specs.Refusals.{cleared}
 use Rattle.definitions.specs.Partitions.{compositionTable}
 use Rattle.definitions.specs.Limits.{padLength}
-use Rattle.series_calls.proofs.compositions.composition.Statement.{statement}
-use Rattle.series_calls.proofs.compositions.composition.Tie as tie
+use Rattle.composition_calls.proofs.compositions.composition.Statement.{statement}
+use Rattle.composition_calls.proofs.compositions.composition.Tie as tie
 
 check-composition-requires : tie.Need-check-composition-requires
 check-composition-requires c κs = search needs

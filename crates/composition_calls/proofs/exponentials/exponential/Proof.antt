@@ -3,14 +3,14 @@ use Prim.Native.Nat.{ℕ}
 use denote.Ref.{now}
 use lib.ListN.{length}
 use borrow.Author.Needs.{needs}
-use Rattle.series_calls.proofs.Ends.{started, start-zero, by-value, used-in, used-long, ready, clear-ready, pad-cleared}
+use Rattle.composition_calls.specs.Ends.{started, start-zero, by-value, used-in, used-long, ready, clear-ready, pad-cleared}
 use Rattle.checks.specs.Answers.{refused, word-kept}
 use Rattle.checks.specs.Accepted.{exponential-number}
 use Rattle.definitions.specs.Refusals.{cleared}
 use Rattle.definitions.specs.Partitions.{exponentialTable}
 use Rattle.definitions.specs.Limits.{padLength}
-use Rattle.series_calls.proofs.exponentials.exponential.Statement.{statement}
-use Rattle.series_calls.proofs.exponentials.exponential.Tie as tie
+use Rattle.composition_calls.proofs.exponentials.exponential.Statement.{statement}
+use Rattle.composition_calls.proofs.exponentials.exponential.Tie as tie
 
 check-start-requires : tie.Need-check-start-requires
 check-start-requires c κs = search needs

@@ -11,9 +11,9 @@ use Rattle.definitions.specs.Refusals.{sumNumber, binomialNumber, productNumber
 use Rattle.theory.specs.Logarithm.{logarithm-unique}
 use Rattle.theory.specs.Entries.{at-below}
 use Rattle.theory.specs.Tables.{exponential-of-sum, composition-of-product, exponential-first, sum-first}
-use Rattle.laws.specs.Demand.{Inputs, Call, Calls, Done, Demand3}
+use Rattle.laws_theory.specs.Demand.{Inputs, Call, Calls, Done, Demand3}
 use Rattle.checks.specs.Accepted.{InRange, IsTable, IsRow, table-accepted, row-accepted}
-use Rattle.laws.specs.Accepting.{sum-number, binomial-number, product-number, exponential-number, logarithm-number, composition-number, residues-table, binomial-row, logarithm-table}
+use Rattle.laws_theory.specs.Accepting.{sum-number, binomial-number, product-number, exponential-number, logarithm-number, composition-number, residues-table, binomial-row, logarithm-table}
 
 -- what a call promises: its number, and what its result is if that is 0
 pub record Made (number : ℕ) (Right : List ℕ → Type 0) (c : Call) : Type 0 where

@@ -1,8 +1,8 @@
 use denote.Ref.{now}
 use borrow.Author.Needs.{needs}
-use Rattle.composition.proofs.Lower.{lower-long, lay-ready, multiply-ready, upper-filled}
-use Rattle.composition.proofs.fill_upper.Statement.{statement}
-use Rattle.composition.proofs.fill_upper.Tie as tie
+use Rattle.exponential.proofs.Halves.{lower-long, lay-ready, multiply-ready, upper-filled}
+use Rattle.exponential.proofs.fill_upper.Statement.{statement}
+use Rattle.exponential.proofs.fill_upper.Tie as tie
 
 power-requires : tie.Need-power-requires
 power-requires c κs = search needs

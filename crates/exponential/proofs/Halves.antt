@@ -2,10 +2,9 @@
 use mathlib.Core.Path.{_≡_, sym, ap, _∙_}
 use mathlib.Core.List.{List, _++_}
 use Prim.Native.Nat.{ℕ, suc, _+_, _-_, _%_, _^_, _<_, _≤_}
-use native.Mathlib.Nat.{mul-le-mul, mod-eq-of-lt, mod-lt}
+use native.Mathlib.Nat.{mod-eq-of-lt, mod-lt}
 use native.Mathlib.Omega.{arith}
 use lib.Arith.{lt-one}
-use lib.Pow.{pow-mono}
 use lib.ListN.{length, take, drop, set, length-drop, length-set, List·getD-append}
 use lib.Seq.{length-take-le, length-front, take-at, getD-set-same, getD-take, getD-drop}
 use borrow.Rule.Slice.PartMut.{putMid}
@@ -16,8 +15,9 @@ use Rattle.theory.specs.Lists.{at-residues, residues-of}
 use Rattle.theory.specs.Composition.{composition-empty}
 use Rattle.theory.specs.Tables.{exponential-halves}
 use Rattle.ranked_theory.specs.Recursion.{Room, LaidLeft, FactorsReady, ProductOfLaid}
-use Rattle.composition.specs.Ready.{rowsLength, Ready, LowerDone, upperFilled}
+use Rattle.composition.specs.Ready.{rowsLength, Ready, rows-mono}
 use Rattle.composition.proofs.Parts.{part-behind, put-behind}
+use Rattle.exponential.specs.Lower.{LowerDone, upperFilled}
 
 -- ---- the upper half
 
@@ -47,10 +47,6 @@ module _ (p m mid : ℕ) (a r w : List ℕ) (e : mid ≡ 2 ^ p) (d : LowerDone p
       ∙ ap (λ (k : ℕ). take k r ++ subsetTable p m (take k r) (drop k a)) e
 
 -- ---- the recursion
-
--- more controls take more room
-pub rows-mono : (p q : ℕ) → p ≤ q → rowsLength p ≤ rowsLength q
-rows-mono p q h = mul-le-mul (pow-mono h) (omega arith)
 
 -- one entry
 pub single : (q m : ℕ) (a r w : List ℕ) → q ≡ 0 → 1 < m → Ready q m a r w → set r 0 1 ≡ exponentialTable q m a

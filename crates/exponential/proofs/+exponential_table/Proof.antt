@@ -8,14 +8,14 @@ use lib.ListN.{length}
 use borrow.Author.Needs.{needs}
 use borrow.Fn.Kinds.{In}
 use borrow.Fn.PlainCycle.{Measures, is, falls, and}
-use Rattle.composition.proofs.Lower.{single, half-a, in-r, half-r, first-ready, lower-done, both-halves}
-use Rattle.composition.proofs.exponential_table.Reads as exponential-table
-use Rattle.composition.proofs.exponential_table.Kinds as exponential-table-kinds
-use Rattle.composition.proofs.+exponential_table.Lts-exponential_table as exponential-table-lts
-use Rattle.composition.proofs.fill_upper.Reads as fill-upper-reads
+use Rattle.exponential.proofs.Halves.{single, half-a, in-r, half-r, first-ready, lower-done, both-halves}
+use Rattle.exponential.proofs.exponential_table.Reads as exponential-table
+use Rattle.exponential.proofs.exponential_table.Kinds as exponential-table-kinds
+use Rattle.exponential.proofs.+exponential_table.Lts-exponential_table as exponential-table-lts
+use Rattle.exponential.proofs.fill_upper.Reads as fill-upper-reads
 use Rattle.composition.proofs.power.Reads as power-reads
-use Rattle.composition.proofs.+exponential_table.{statement}
-use Rattle.composition.proofs.+exponential_table.Tie.{close}
+use Rattle.exponential.proofs.+exponential_table.{statement}
+use Rattle.exponential.proofs.+exponential_table.Tie.{close}
 
 abbrev μ-exponential-table : Measures 3 exponential-table-kinds.ps ℕ
 μ-exponential-table κs a = a .0
