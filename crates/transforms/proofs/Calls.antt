@@ -15,8 +15,10 @@ use Rattle.checks.specs.Accepted.{Product, IsTable, product-accepted}
 use Rattle.checks.specs.Answers.{Stands, IsChecked, alsoTested, also-tested, same-answer}
 use Rattle.checks.specs.Words.{no-word, orElse-first, orElse-second}
 use Rattle.checks.specs.declared.Checked.{Checked}
-use Rattle.transforms.specs.Steps.{Ready, Inputs, Transformed, products, Halves}
-use Rattle.transforms.specs.declared.Transform.the-variants.{Zeta, Moebius, Walsh}
+use Rattle.pointwise.specs.Tables.{Ready}
+use Rattle.transform_passes.specs.Steps.{Transformed, products, Halves}
+use Rattle.transform_passes.specs.declared.Transform.the-variants.{Zeta, Moebius, Walsh}
+use Rattle.transforms.specs.Inputs.{Inputs}
 
 module _ {n m r p : ℕ} {a b : List ℕ} {modulus : Modulus} (s : Stands modulus m) (h : Product n m a b r p) where
   ready : {l : List ℕ} → IsTable n m l → Ready n modulus l
