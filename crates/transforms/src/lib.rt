@@ -4,8 +4,7 @@ ghost use Prim.Native.Nat.{ℕ, _%_};
 ghost use lib.ListN.{length};
 ghost use Rattle.definitions.specs.Limits.{padLength};
 ghost use Rattle.definitions.specs.Products.{unionTable, xorTable};
-ghost use Rattle.definitions.specs.Refusals.{productNumber, xorNumber, halvingWord, after, cleared, padAfter};
-ghost use Rattle.checks.specs.Answers.{IsChecked};
+ghost use Rattle.definitions.specs.Refusals.{productNumber, xorNumber, after, cleared, padAfter};
 ghost use Rattle.transform_passes.specs.Steps.{Transformed, products};
 ghost use Rattle.transforms.specs.Inputs.{Inputs};
 use checks::Checked;
@@ -68,21 +67,6 @@ fn xor_tables(
     pointwise::scale(n, modulus, transform_passes::halved(n, modulus), result);
 }
 
-// 01's word for an even modulus.
-fn halving_word(m: u32) -> u32
-    ensures { λ r. ⌜ r ≡ halvingWord m ⌝ }
-{
-    if m % 2 == 0 { 7 } else { 0 }
-}
-
-// The xor product's tests, for a result and a workspace of these lengths.
-fn check_xor(n: u32, m: u32, a: &[u32], b: &[u32], result: usize, workspace: usize) -> Checked
-    ensures { λ r. ⌜ IsChecked m (xorNumber n m (now (a .entry)) (now (b .entry)) result workspace) r ⌝ }
-{
-    let checked = checks::check_product(n, m, a, b, result, workspace);
-    checked.also(halving_word(m))
-}
-
 // The union product: the sum over all pairs of sets with the given union.
 pub fn union_product(
     n: u32,
@@ -120,7 +104,7 @@ pub fn xor_product(n: u32, m: u32, a: &[u32], b: &[u32], result: &mut [u32], pad
     ensures { λ r. ⌜ now (result .exit) ≡ after r (xorTable n m (now (a .entry)) (now (b .entry))) (now (result .entry)) ⌝ }
     ensures { λ r. ⌜ now (pad .exit) ≡ padAfter r n (now (pad .entry)) ⌝ }
 {
-    match check_xor(n, m, a, b, result.len(), pad.len()) {
+    match checks::check_xor(n, m, a, b, result.len(), pad.len()) {
         Checked::Accepted(modulus) => {
             xor_tables(n, modulus, a, b, result, pad);
             0

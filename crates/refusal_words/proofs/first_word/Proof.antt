@@ -5,9 +5,9 @@ use denote.Ref.{now}
 use lib.ListN.{length, drop}
 use borrow.Author.Needs.{needs}
 use Rattle.definitions.specs.Refusals.{firstWord}
-use Rattle.checks.proofs.Prefixes.{words-none, words-more}
-use Rattle.checks.proofs.first_word.Statement.{statement}
-use Rattle.checks.proofs.first_word.Tie as tie
+use Rattle.refusal_words.proofs.Prefixes.{words-none, words-more}
+use Rattle.refusal_words.proofs.first_word.Statement.{statement}
+use Rattle.refusal_words.proofs.first_word.Tie as tie
 
 abbrev Inv-loop : tie.InvT-loop
 Inv-loop words word₀ i₀ word i = (i ≤ length words) × (word ≡ firstWord (drop i words))

@@ -2,8 +2,8 @@ use mathlib.Core.Path.{_≡_}
 use Prim.Native.Nat.{ℕ, _<_, _≤_}
 use borrow.Author.Tests.{lt-ltb, le-ltb}
 use borrow.Author.Needs.{needs}
-use Rattle.checks.proofs.pad_word.Statement.{statement}
-use Rattle.checks.proofs.pad_word.Tie as tie
+use Rattle.refusal_words.proofs.pad_word.Statement.{statement}
+use Rattle.refusal_words.proofs.pad_word.Tie as tie
 
 less : {k w v : ℕ} → w ≡ v → k < w → k < v
 less e h = rw e at h

@@ -1,8 +1,8 @@
 use Prim.Native.Nat.{_%_}
 use native.Mathlib.Omega.{arith}
 use borrow.Author.Tests.{eq-eqb, ne-eqb}
-use Rattle.transforms.proofs.halving_word.Statement.{statement}
-use Rattle.transforms.proofs.halving_word.Tie as tie
+use Rattle.refusal_words.proofs.halving_word.Statement.{statement}
+use Rattle.refusal_words.proofs.halving_word.Tie as tie
 
 returns : tie.Need-returns
 returns c = rw (eq-eqb (c .before .args .m % 2) 0 (omega arith))

@@ -1,6 +1,6 @@
 use borrow.Author.Tests.{eq-eqb, ne-eqb}
-use Rattle.checks.proofs.length_word.Statement.{statement}
-use Rattle.checks.proofs.length_word.Tie as tie
+use Rattle.refusal_words.proofs.length_word.Statement.{statement}
+use Rattle.refusal_words.proofs.length_word.Tie as tie
 
 returns : tie.Need-returns
 returns c = simp (eq-eqb _ _ (c .if1 .taken))

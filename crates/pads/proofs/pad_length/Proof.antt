@@ -6,8 +6,8 @@ use lib.Dec.{lit<}
 use lib.Pow.{pow-mono}
 use borrow.Author.Needs.{needs}
 use Rattle.definitions.specs.Limits.{mostControls, padLength}
-use Rattle.checks.proofs.pad_length.Statement.{statement}
-use Rattle.checks.proofs.pad_length.Tie as tie
+use Rattle.pads.proofs.pad_length.Statement.{statement}
+use Rattle.pads.proofs.pad_length.Tie as tie
 
 fits : (n k : ℕ) → n ≤ mostControls → k ≡ 2 ^ n → (2 * n + 4) * k < 2 ^ 64
 fits n k h e =

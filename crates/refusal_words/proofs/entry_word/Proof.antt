@@ -5,9 +5,9 @@ use denote.Ref.{now}
 use lib.ListN.{length, take}
 use borrow.Author.Needs.{needs}
 use Rattle.definitions.specs.Refusals.{entryWord}
-use Rattle.checks.proofs.Prefixes.{entry-none, entry-above, entry-below, entry-whole}
-use Rattle.checks.proofs.entry_word.Statement.{statement}
-use Rattle.checks.proofs.entry_word.Tie as tie
+use Rattle.refusal_words.proofs.Prefixes.{entry-none, entry-above, entry-below, entry-whole}
+use Rattle.refusal_words.proofs.entry_word.Statement.{statement}
+use Rattle.refusal_words.proofs.entry_word.Tie as tie
 
 abbrev Inv-loop : tie.InvT-loop
 Inv-loop m a word₀ i₀ word i = (i ≤ length a) × (word ≡ entryWord m (take i a))

@@ -5,8 +5,8 @@ use lib.ListN.{length}
 use borrow.Author.Needs.{needs}
 use Rattle.definitions.specs.Refusals.{cleared}
 use Rattle.theory.specs.Lists.{filled, filled-none, turn, part}
-use Rattle.checks.proofs.clear.Statement.{statement}
-use Rattle.checks.proofs.clear.Tie as tie
+use Rattle.pads.proofs.clear.Statement.{statement}
+use Rattle.pads.proofs.clear.Tie as tie
 
 abbrev nothing : ℕ → ℕ
 nothing i = 0

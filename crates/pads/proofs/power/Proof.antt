@@ -5,8 +5,8 @@ use native.Mathlib.Omega.{arith}
 use lib.Dec.{lit<}
 use lib.Pow.{shl-exact}
 use borrow.Author.Needs.{needs}
-use Rattle.checks.proofs.power.Statement.{statement}
-use Rattle.checks.proofs.power.Tie as tie
+use Rattle.pads.proofs.power.Statement.{statement}
+use Rattle.pads.proofs.power.Tie as tie
 
 shl-result : tie.Need-shl-result
 shl-result c = search needs

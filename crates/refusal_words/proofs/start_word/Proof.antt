@@ -1,8 +1,8 @@
 use mathlib.Core.Path.{sym, _∙_}
 use borrow.Author.Tests.{eq-eqb, ne-eqb}
 use borrow.Author.Needs.{needs}
-use Rattle.checks.proofs.start_word.Statement.{statement}
-use Rattle.checks.proofs.start_word.Tie as tie
+use Rattle.refusal_words.proofs.start_word.Statement.{statement}
+use Rattle.refusal_words.proofs.start_word.Tie as tie
 
 first-entry-requires : tie.Need-first-entry-requires
 first-entry-requires c κs = search needs

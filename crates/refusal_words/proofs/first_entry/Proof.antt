@@ -2,8 +2,8 @@ use mathlib.Core.Path.{sym}
 use denote.Ref.{now}
 use lib.ListN.{List·getD-eq-default}
 use borrow.Author.Needs.{needs}
-use Rattle.checks.proofs.first_entry.Statement.{statement}
-use Rattle.checks.proofs.first_entry.Tie as tie
+use Rattle.refusal_words.proofs.first_entry.Statement.{statement}
+use Rattle.refusal_words.proofs.first_entry.Tie as tie
 
 shared-slice-read-result : tie.Need-shared-slice-read-result
 shared-slice-read-result c = search needs
