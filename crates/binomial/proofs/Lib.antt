@@ -1,2 +1,1 @@
-pub mod Ends
 pub mod Pascal

@@ -6,10 +6,10 @@ use borrow.Author.Needs.{needs}
 use Rattle.definitions.specs.Rows.{binomialRow}
 use Rattle.checks.specs.Accepted.{binomial-accepted}
 use Rattle.checks.specs.Answers.{accepted, refused, word-kept}
-use Rattle.entrywise.specs.Rules.{binomialAt}
-use Rattle.entrywise.proofs.Ends.{inputs, tabled}
-use Rattle.entrywise.proofs.binomial_product.Statement.{statement}
-use Rattle.entrywise.proofs.binomial_product.Tie as tie
+use Rattle.binomial.specs.Rules.{binomialAt}
+use Rattle.pointwise.specs.Pairs.{inputs, tabled}
+use Rattle.binomial.proofs.binomial_product.Statement.{statement}
+use Rattle.binomial.proofs.binomial_product.Tie as tie
 
 check-rows-requires : tie.Need-check-rows-requires
 check-rows-requires c κs = search needs

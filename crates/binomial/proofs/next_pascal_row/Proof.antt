@@ -7,10 +7,10 @@ use lib.ListN.{length}
 use borrow.Author.Needs.{needs}
 use Rattle.definitions.specs.Sums.{at}
 use Rattle.theory.specs.Lists.{filled, filled-none, filled-all, turn, part}
-use Rattle.entrywise.proofs.Pascal.{at-filled, left-more, left-below}
-use Rattle.entrywise.specs.Rules.{pascalAt, rowWidth}
-use Rattle.entrywise.proofs.next_pascal_row.Statement.{statement}
-use Rattle.entrywise.proofs.next_pascal_row.Tie as tie
+use Rattle.binomial.proofs.Pascal.{at-filled, left-more, left-below}
+use Rattle.binomial.specs.Rules.{pascalAt, rowWidth}
+use Rattle.binomial.proofs.next_pascal_row.Statement.{statement}
+use Rattle.binomial.proofs.next_pascal_row.Tie as tie
 
 abbrev Inv-loop : tie.InvT-loop
 Inv-loop modulus row₀ left₀ j₀ row left j =

@@ -1,12 +1,19 @@
--- From what a check tells to what a loop needs, and from what the loop gives to the table that the call promises.
+-- Two lists of residues, as a loop over both needs them: from what a check tells to that, and from what the loop gives to the
+-- table that the call promises.
 use mathlib.Core.Path.{_≡_, sym, _∙_, ap₂}
 use mathlib.Core.List.{List}
 use Prim.Native.Nat.{ℕ, _<_}
 use Rattle.definitions.specs.Sums.{at, tabulate}
+use Rattle.residues.specs.Moduli.{Valid}
 use Rattle.residues.specs.declared.Modulus.{Modulus}
 use Rattle.checks.specs.Accepted.{Entries, Pair}
 use Rattle.checks.specs.Answers.{Stands}
-use Rattle.entrywise.specs.Rules.{Inputs}
+
+-- what a loop needs of its modulus and of its two inputs, for a result of so many entries
+pub record Inputs (modulus : Modulus) (long : ℕ) (a b : List ℕ) : Type 0 where
+  pub valid : Valid modulus
+  pub first : Entries long (modulus .value) a
+  pub second : Entries long (modulus .value) b
 
 module _ {n m long : ℕ} {a b : List ℕ} {r : ℕ} {modulus : Modulus} (s : Stands modulus m) (p : Pair n m long a b r) where
   pub inputs : Inputs modulus r a b

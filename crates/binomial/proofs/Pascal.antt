@@ -19,7 +19,7 @@ use Rattle.residues.specs.Accumulated.{Holds, Started, Added, holds-start, hold
 use Rattle.residues.specs.declared.Modulus.{Modulus}
 use Rattle.residues.specs.declared.Accumulator.{Accumulator}
 use Rattle.checks.specs.Accepted.{Entries}
-use Rattle.entrywise.specs.Rules.{rowWidth, pascalRow, pascalAt, termAt, binomialAt}
+use Rattle.binomial.specs.Rules.{rowWidth, pascalRow, pascalAt, termAt, binomialAt}
 
 -- ---- a loop that fills a list reads what it has not reached yet
 

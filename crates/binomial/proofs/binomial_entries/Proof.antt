@@ -8,10 +8,10 @@ use lib.ListN.{length}
 use borrow.Author.Needs.{needs}
 use Rattle.definitions.specs.Sums.{sum, tabulate}
 use Rattle.theory.specs.Lists.{filled, filled-none, turn, whole}
-use Rattle.entrywise.specs.Rules.{binomialAt, termAt, pascalAt, pascalRow, rowWidth}
-use Rattle.entrywise.proofs.Pascal.{pascal-first, pascal-entries, pascal-next, entry}
-use Rattle.entrywise.proofs.binomial_entries.Statement.{statement}
-use Rattle.entrywise.proofs.binomial_entries.Tie as tie
+use Rattle.binomial.specs.Rules.{binomialAt, termAt, pascalAt, pascalRow, rowWidth}
+use Rattle.binomial.proofs.Pascal.{pascal-first, pascal-entries, pascal-next, entry}
+use Rattle.binomial.proofs.binomial_entries.Statement.{statement}
+use Rattle.binomial.proofs.binomial_entries.Tie as tie
 
 abbrev Inv-loop : tie.InvT-loop
 Inv-loop modulus f g result₀ choices₀ i₀ result choices i =

@@ -5,9 +5,9 @@ use denote.Ref.{now}
 use borrow.Author.Needs.{needs}
 use Rattle.definitions.specs.Sums.{sum, at}
 use Rattle.residues.specs.Accumulated.{Holds, holds-residue}
-use Rattle.entrywise.proofs.Pascal.{reducedAt, holds-none, one-more, unreduced}
-use Rattle.entrywise.proofs.binomial_entry.Statement.{statement}
-use Rattle.entrywise.proofs.binomial_entry.Tie as tie
+use Rattle.binomial.proofs.Pascal.{reducedAt, holds-none, one-more, unreduced}
+use Rattle.binomial.proofs.binomial_entry.Statement.{statement}
+use Rattle.binomial.proofs.binomial_entry.Tie as tie
 
 abbrev Inv-loop : tie.InvT-loop
 Inv-loop modulus choices f g i total₀ j₀ total j =
