@@ -2,8 +2,8 @@
 -- table that the call promises.
 use mathlib.Core.Path.{_≡_, sym, _∙_, ap₂}
 use mathlib.Core.List.{List}
-use Prim.Native.Nat.{ℕ, _<_}
-use Rattle.definitions.specs.Sums.{at, tabulate}
+use Prim.Native.Nat.{ℕ}
+use Rattle.definitions.specs.Sums.{tabulate}
 use Rattle.residues.specs.Moduli.{Valid}
 use Rattle.residues.specs.declared.Modulus.{Modulus}
 use Rattle.checks.specs.Accepted.{Entries, Pair}

@@ -1,6 +1,6 @@
 // Tables entry by entry: a copy, a product, a factor.
 ghost use mathlib.Core.Path.{_≡_};
-ghost use Prim.Native.Nat.{ℕ, _*_, _<_};
+ghost use Prim.Native.Nat.{_*_, _<_};
 ghost use lib.ListN.{length};
 ghost use Rattle.definitions.specs.Sums.{at};
 ghost use Rattle.definitions.specs.Products.{residues};

@@ -1,6 +1,6 @@
 // Union and xor product: transforms that act on one control at a time turn each of them into a product entry by entry.
 ghost use mathlib.Core.Path.{_≡_};
-ghost use Prim.Native.Nat.{ℕ, _%_};
+ghost use Prim.Native.Nat.{_%_};
 ghost use lib.ListN.{length};
 ghost use Rattle.definitions.specs.Limits.{padLength};
 ghost use Rattle.definitions.specs.Products.{unionTable, xorTable};
