@@ -2,15 +2,16 @@
 -- that comes after the others.
 use mathlib.Core.Path.{_≡_, refl, sym, _∙_, ap, ap₂}
 use mathlib.Core.Bool.{Bool, true, false, _||_}
-use mathlib.Core.List.{List, _∷_}
-use Prim.Native.Nat.{ℕ, zero, suc, _<_, _≤_}
+use mathlib.Core.List.{List, [], _∷_}
+use Prim.Native.Nat.{ℕ, zero, suc, _^_, _<_, _≤_}
 use native.Mathlib.Omega.{arith}
 use lib.Dec.{ltb}
 use borrow.Author.Tests.{lt-ltb, le-ltb}
 use Rattle.definitions.specs.Limits.{mostControls, lowestModulus, largestModulus}
-use Rattle.definitions.specs.Refusals.{wordIf, orElse, firstWord, panelWord, modulusWord}
+use Rattle.definitions.specs.Refusals.{wordIf, orElse, firstWord, panelWord, modulusWord, tableWord}
 use Rattle.residues.specs.Moduli.{MadeFrom, RefusedFor}
 use Rattle.residues.specs.declared.Modulus.{Modulus}
+use Rattle.checks.specs.Accepted.{lengthWord}
 use Rattle.checks.specs.Answers.{IsChecked, alsoTested, is-refused, is-accepted, same-number}
 use Rattle.checks.specs.declared.Checked.{Checked}
 use Rattle.checks.specs.declared.Checked.the-variants.{Accepted, Refused}
@@ -29,6 +30,18 @@ past-panel n h x = same-number (simp (le-ltb mostControls n h)) x
 pub these-words : {m w : ℕ} {r : Checked} (ls : List ℕ) →
     IsChecked m (orElse (modulusWord m) w) r → w ≡ firstWord ls → IsChecked m (firstWord (modulusWord m ∷ ls)) r
 these-words {m} ls x e = same-number (ap (orElse (modulusWord m)) e) x
+
+-- word by word: `e then f then no-more`
+pub no-more : _≡_ {A = List ℕ} [] []
+no-more = refl
+
+infixr 20 _then_
+pub _then_ : {j k : ℕ} {js ks : List ℕ} → j ≡ k → js ≡ ks → (j ∷ js) ≡ (k ∷ ks)
+_then_ e f = ap₂ _∷_ e f
+
+-- the length of a table, by what its number of entries was found to be
+pub table-length : (n k : ℕ) {w long : ℕ} → w ≡ lengthWord long k → long ≡ 2 ^ n → w ≡ tableWord n k
+table-length n k e f = e ∙ ap (λ (i : ℕ). lengthWord i k) f
 
 module _ {o : Checked} (w : ℕ) where
   pub also-go : {modulus : Modulus} → o ≡ Accepted modulus → w ≡ 0 → Accepted modulus ≡ alsoTested o w

@@ -1,14 +1,19 @@
-// What calls on tables and rows share: 01's tests with their words of refusal, in 01's order, and clearing the workspace
-// (01: pad). Each shape of call has one check, and a call gets its modulus from that check alone.
+// What calls on tables and rows share: 01's tests with their words of refusal, in 01's order. Each shape of call has one
+// check, and a call gets its modulus from that check alone. What clears the workspace (01: pad) is passed on beside them.
 ghost use mathlib.Core.Path.{_≡_};
 ghost use mathlib.Core.List.{_∷_};
-ghost use Prim.Native.Nat.{_+_, _^_, _≤_};
-ghost use lib.ListN.{length};
-ghost use Rattle.definitions.specs.Limits.{mostControls, padLength};
-ghost use Rattle.definitions.specs.Sums.{at};
-ghost use Rattle.definitions.specs.Refusals.{firstWord, orElse, modulusWord, padWord, entryWord, startWord, cleared, sumNumber, binomialNumber, productNumber, singleNumber, compositionNumber};
-ghost use Rattle.checks.specs.Accepted.{lengthWord, pairWords, startNumber, tableNumber};
+ghost use Rattle.definitions.specs.Refusals.{firstWord, orElse, modulusWord, sumNumber, binomialNumber, productNumber, xorNumber, singleNumber, compositionNumber};
+ghost use Rattle.checks.specs.Accepted.{pairWords, startNumber, tableNumber};
 ghost use Rattle.checks.specs.Answers.{IsChecked, alsoTested};
+pub use pads::clear;
+pub use pads::pad_length;
+pub use pads::power;
+use refusal_words::entry_word;
+use refusal_words::first_word;
+use refusal_words::halving_word;
+use refusal_words::length_word;
+use refusal_words::pad_word;
+use refusal_words::start_word;
 use residues::Modulus;
 use residues::ModulusAnswer;
 
@@ -20,84 +25,6 @@ pub enum Checked {
 
 // The most controls that a panel has.
 pub const MOST_CONTROLS: u32 = 16;
-
-// How many entries a table of n controls has.
-pub fn power(n: u32) -> usize
-    requires { ⌜ n ≤ mostControls ⌝ }
-    ensures { λ r. ⌜ r ≡ 2 ^ n ⌝ }
-{
-    1 << n
-}
-
-// How many entries of the workspace a call uses (01: W).
-pub fn pad_length(n: u32) -> usize
-    requires { ⌜ n ≤ mostControls ⌝ }
-    ensures { λ r. ⌜ r ≡ padLength n ⌝ }
-{
-    let k = n as usize;
-    (2 * k + 4) * power(n)
-}
-
-fn length_word(expected: usize, found: usize) -> u32
-    ensures { λ r. ⌜ r ≡ lengthWord expected found ⌝ }
-{
-    if found == expected { 0 } else { 3 }
-}
-
-fn pad_word(n: u32, found: usize) -> u32
-    requires { ⌜ n ≤ mostControls ⌝ }
-    ensures { λ r. ⌜ r ≡ padWord n found ⌝ }
-{
-    if found < pad_length(n) { 4 } else { 0 }
-}
-
-// All entries are looked at, so that the loop has no way out of its middle.
-fn entry_word(m: u32, a: &[u32]) -> u32
-    ensures { λ r. ⌜ r ≡ entryWord m (now (a .entry)) ⌝ }
-{
-    let mut word: u32 = 0;
-    let mut i = 0;
-    while i < a.len() {
-        if m <= a[i] {
-            word = 5;
-        }
-        i += 1;
-    }
-    word
-}
-
-// The entry at the empty set.
-fn first_entry(a: &[u32]) -> u32
-    ensures { λ r. ⌜ r ≡ at (now (a .entry)) 0 ⌝ }
-{
-    if 0 < a.len() { a[0] } else { 0 }
-}
-
-// Whether the first entry is the one that the call takes.
-pub fn start_word(first: u32, a: &[u32]) -> u32
-    ensures { λ r. ⌜ r ≡ startWord first (now (a .entry)) ⌝ }
-{
-    if first_entry(a) == first { 0 } else { 6 }
-}
-
-fn or_else(first: u32, second: u32) -> u32
-    ensures { λ r. ⌜ r ≡ orElse first second ⌝ }
-{
-    if first == 0 { second } else { first }
-}
-
-// The first word of some tests that is not 0.
-fn first_word(words: &[u32]) -> u32
-    ensures { λ r. ⌜ r ≡ firstWord (now (words .entry)) ⌝ }
-{
-    let mut word: u32 = 0;
-    let mut i = words.len();
-    while 0 < i {
-        i -= 1;
-        word = or_else(words[i], word);
-    }
-    word
-}
 
 impl Checked {
     // The answer if one more test, with this word, is made after the others.
@@ -194,6 +121,14 @@ pub fn check_product(
     check_modulus(m, first_word(&words))
 }
 
+// The xor product's tests, for a result and a workspace of these lengths.
+pub fn check_xor(n: u32, m: u32, a: &[u32], b: &[u32], result: usize, workspace: usize) -> Checked
+    ensures { λ r. ⌜ IsChecked m (xorNumber n m (now (a .entry)) (now (b .entry)) result workspace) r ⌝ }
+{
+    let checked = check_product(n, m, a, b, result, workspace);
+    checked.also(halving_word(m))
+}
+
 // One table, and a result and a workspace of these lengths.
 pub fn check_single(n: u32, m: u32, a: &[u32], result: usize, workspace: usize) -> Checked
     ensures { λ r. ⌜ IsChecked m (singleNumber n m (now (a .entry)) result workspace) r ⌝ }
@@ -262,16 +197,4 @@ pub fn check_table(n: u32, m: u32, a: &[u32]) -> Checked
     }
     let words = [length_word(power(n), a.len()), entry_word(m, a)];
     check_modulus(m, first_word(&words))
-}
-
-// The first entries of the workspace become 0.
-pub fn clear(long: usize, workspace: &mut [u32])
-    requires { ⌜ long ≤ length (now workspace) ⌝ }
-    ensures { λ _. ⌜ now (workspace .exit) ≡ cleared long (now (workspace .entry)) ⌝ }
-{
-    let mut i = 0;
-    while i < long {
-        workspace[i] = 0;
-        i += 1;
-    }
 }

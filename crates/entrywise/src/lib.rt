@@ -1,17 +1,14 @@
-// The calls that work entry by entry and need no workspace: sum and difference of tables, binomial product of rows.
+// The calls that work entry by entry and need no workspace: sum and difference of tables, and, passed on, binomial product of
+// rows.
 ghost use mathlib.Core.Path.{_≡_};
-ghost use mathlib.Core.List.{_∷_};
-ghost use Prim.Native.Nat.{suc, _+_, _-_, _*_, _%_, _<_, _≤_};
 ghost use lib.ListN.{length};
-ghost use Rattle.definitions.specs.Sums.{at, sum, tabulate};
+ghost use Rattle.definitions.specs.Sums.{tabulate};
 ghost use Rattle.definitions.specs.Products.{sumTable, differenceTable};
-ghost use Rattle.definitions.specs.Rows.{binomialRow};
-ghost use Rattle.definitions.specs.Refusals.{sumNumber, binomialNumber, after};
-ghost use Rattle.residues.specs.Moduli.{Valid};
-ghost use Rattle.checks.specs.Accepted.{Entries};
-ghost use Rattle.entrywise.specs.Rules.{Inputs, sumAt, differenceAt, binomialAt, termAt, pascalAt, rowWidth};
+ghost use Rattle.definitions.specs.Refusals.{sumNumber, after};
+ghost use Rattle.pointwise.specs.Pairs.{Inputs};
+ghost use Rattle.entrywise.specs.Rules.{sumAt, differenceAt};
+pub use binomial::binomial_product;
 use checks::Checked;
-use residues::Accumulator;
 use residues::Modulus;
 
 fn add_entries(modulus: Modulus, a: &[u32], b: &[u32], result: &mut [u32])
@@ -58,68 +55,6 @@ pub fn difference(n: u32, m: u32, a: &[u32], b: &[u32], result: &mut [u32]) -> u
     match checks::check_pair(n, m, a, b, result.len()) {
         Checked::Accepted(modulus) => {
             subtract_entries(modulus, a, b, result);
-            0
-        }
-        Checked::Refused(word) => word,
-    }
-}
-
-// The row of Pascal's triangle below this one, modulo m. There is always a 0 behind the last number, so the width is enough.
-fn next_pascal_row(modulus: Modulus, row: &mut [u32; 17])
-    requires { ⌜ Valid modulus ⌝ }
-    requires { ⌜ Entries rowWidth (modulus .value) (now row) ⌝ }
-    ensures { λ _. ⌜ now (row .exit) ≡ tabulate rowWidth (pascalAt (modulus .value) (now (row .entry))) ⌝ }
-{
-    let mut left: u32 = 0;
-    let mut j = 0;
-    while j < 17 {
-        let here = row[j];
-        row[j] = modulus.add(here, left);
-        left = here;
-        j += 1;
-    }
-}
-
-// Entry i of the binomial product, from the i-th row of Pascal's triangle.
-fn binomial_entry(modulus: Modulus, choices: &[u32; 17], f: &[u32], g: &[u32], i: usize) -> u32
-    requires { ⌜ Inputs modulus (length (now f)) (now f) (now g) ⌝ }
-    requires { ⌜ Entries rowWidth (modulus .value) (now choices) ⌝ }
-    requires { ⌜ (i < length (now f)) × (i < rowWidth) ⌝ }
-    ensures { λ r. ⌜ r ≡ sum (suc i) (termAt (now (choices .entry)) (now (f .entry)) (now (g .entry)) i) % modulus .value ⌝ }
-{
-    let mut total = Accumulator::start();
-    let mut j = 0;
-    while j <= i {
-        let product = modulus.multiply(f[j], g[i - j]);
-        total = total.add_product(modulus, choices[j], product);
-        j += 1;
-    }
-    total.residue(modulus)
-}
-
-fn binomial_entries(modulus: Modulus, f: &[u32], g: &[u32], result: &mut [u32])
-    requires { ⌜ Inputs modulus (length (now result)) (now f) (now g) ⌝ }
-    requires { ⌜ length (now result) ≤ rowWidth ⌝ }
-    ensures { λ _. ⌜ now (result .exit) ≡ tabulate (length (now (result .entry))) (binomialAt (modulus .value) (now (f .entry)) (now (g .entry))) ⌝ }
-{
-    let mut choices = [0u32; 17];
-    choices[0] = 1;
-    let mut i = 0;
-    while i < result.len() {
-        result[i] = binomial_entry(modulus, &choices, f, g, i);
-        next_pascal_row(modulus, &mut choices);
-        i += 1;
-    }
-}
-
-// The binomial product of two rows.
-pub fn binomial_product(n: u32, m: u32, f: &[u32], g: &[u32], result: &mut [u32]) -> u32
-    ensures { λ r. ⌜ r ≡ binomialNumber n m (now (f .entry)) (now (g .entry)) (length (now (result .entry))) ⌝ }
-    ensures { λ r. ⌜ now (result .exit) ≡ after r (binomialRow n m (now (f .entry)) (now (g .entry))) (now (result .entry)) ⌝ }
-{
-    match checks::check_rows(n, m, f, g, result.len()) {
-        Checked::Accepted(modulus) => {
-            binomial_entries(modulus, f, g, result);
             0
         }
         Checked::Refused(word) => word,

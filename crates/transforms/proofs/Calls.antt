@@ -12,11 +12,12 @@ use Rattle.definitions.specs.Refusals.{productNumber, xorNumber, halvingWord}
 use Rattle.theory.specs.Convolution.{union-by-zeta, xor-halved}
 use Rattle.residues.specs.declared.Modulus.{Modulus}
 use Rattle.checks.specs.Accepted.{Product, IsTable, product-accepted}
-use Rattle.checks.specs.Answers.{Stands, IsChecked, alsoTested, also-tested, same-answer}
+use Rattle.checks.specs.Answers.{Stands}
 use Rattle.checks.specs.Words.{no-word, orElse-first, orElse-second}
-use Rattle.checks.specs.declared.Checked.{Checked}
-use Rattle.transforms.specs.Steps.{Ready, Inputs, Transformed, products, Halves}
-use Rattle.transforms.specs.declared.Transform.the-variants.{Zeta, Moebius, Walsh}
+use Rattle.pointwise.specs.Tables.{Ready}
+use Rattle.transform_passes.specs.Steps.{Transformed, products, Halves}
+use Rattle.transform_passes.specs.declared.Transform.the-variants.{Zeta, Moebius, Walsh}
+use Rattle.transforms.specs.Inputs.{Inputs}
 
 module _ {n m r p : ℕ} {a b : List ℕ} {modulus : Modulus} (s : Stands modulus m) (h : Product n m a b r p) where
   ready : {l : List ℕ} → IsTable n m l → Ready n modulus l
@@ -31,11 +32,6 @@ module _ {n m r p : ℕ} {a b : List ℕ} {modulus : Modulus} (s : Stands modulu
   inputs = record { first = ready (h .first); second = ready (h .second); result-is = h .result; room = h .pad }
 
 module _ (n m : ℕ) (a b : List ℕ) (r p : ℕ) where
-  pub xor-checked : {o answer : Checked} {w : ℕ} → IsChecked m (productNumber n m a b r p) o → w ≡ halvingWord m → answer ≡ alsoTested o w
-      → IsChecked m (xorNumber n m a b r p) answer
-  unfolding xorNumber
-  xor-checked {o} h e f = same-answer (f ∙ ap (alsoTested o) e) (also-tested o (halvingWord m) h)
-
   pub xor-accepted : xorNumber n m a b r p ≡ 0 → Product n m a b r p
   unfolding xorNumber
   xor-accepted zero = product-accepted n m a b r p (orElse-first (productNumber n m a b r p) (halvingWord m) zero)

@@ -1,8 +1,2 @@
-mod Blocks
-mod Table
-mod Controls
-mod Filling
-mod Fours
-mod Halving
-mod Steps
+mod Workspace
 mod Calls

@@ -1,8 +1,10 @@
+use mathlib.Core.Path.{ap, _∙_}
 use denote.Ref.{now}
+use lib.ListN.{length}
 use borrow.Author.Needs.{needs}
-use Rattle.definitions.specs.Refusals.{compositionNumber}
+use Rattle.definitions.specs.Refusals.{firstWord, compositionNumber}
 use Rattle.checks.specs.Accepted.{compositionWords}
-use Rattle.checks.proofs.Making.{panel-refused, past-panel, these-words}
+use Rattle.checks.proofs.Making.{panel-refused, past-panel, these-words, _then_, no-more, table-length}
 use Rattle.checks.proofs.check_composition.Statement.{statement}
 use Rattle.checks.proofs.check_composition.Tie as tie
 
@@ -50,7 +52,17 @@ returns-2 : tie.Need-returns-2
 unfolding compositionNumber
 returns-2 c =
     let s = c .before .before .before .before .before .before .before .before .before .before .before .before .before .before .args in
-    past-panel (s .n) (search needs) (these-words (compositionWords (s .n) (s .m) (now (s .a)) (now (s .f)) (s .result) (s .workspace)) (c .check-modulus .ensures) (cc))
+    let long = c .before .before .before .before .before .before .before .before .before .before .power .ensures in
+    past-panel (s .n) (search needs) (these-words (compositionWords (s .n) (s .m) (now (s .a)) (now (s .f)) (s .result) (s .workspace)) (c .check-modulus .ensures) (c .before .first-word .ensures
+    ∙ ap firstWord
+    (table-length (s .n) (length (now (s .a))) (c .before .before .before .before .before .before .before .before .before .length-word .ensures) long
+    then c .before .before .before .before .before .before .before .before .length-word2 .ensures
+    then table-length (s .n) (s .result) (c .before .before .before .before .before .before .before .length-word3 .ensures) long
+    then c .before .before .before .before .before .before .pad-word .ensures
+    then c .before .before .before .before .before .entry-word .ensures
+    then c .before .before .before .before .entry-word2 .ensures
+    then c .before .before .before .start-word .ensures
+    then no-more)))
 
 pub check-composition-spec : {M : Type 1} → statement M
 check-composition-spec =

@@ -1,7 +1,9 @@
+use mathlib.Core.Path.{ap, _∙_}
 use denote.Ref.{now}
 use borrow.Author.Needs.{needs}
+use Rattle.definitions.specs.Refusals.{firstWord}
 use Rattle.checks.specs.Accepted.{pairWords}
-use Rattle.checks.proofs.Making.{these-words}
+use Rattle.checks.proofs.Making.{these-words, _then_, no-more}
 use Rattle.checks.proofs.check_lists.Statement.{statement}
 use Rattle.checks.proofs.check_lists.Tie as tie
 
@@ -32,7 +34,15 @@ check-modulus-requires c κs = search needs
 returns : tie.Need-returns
 returns c =
     let s = c .before .before .before .before .before .before .before .before .before .before .args in
-    these-words (pairWords (s .m) (s .long) (now (s .a)) (now (s .b)) (s .result)) (c .check-modulus .ensures) (cc)
+    these-words (pairWords (s .m) (s .long) (now (s .a)) (now (s .b)) (s .result)) (c .check-modulus .ensures)
+    (c .before .first-word .ensures
+    ∙ ap firstWord
+    (c .before .before .before .before .before .before .before .length-word .ensures
+    then c .before .before .before .before .before .before .length-word2 .ensures
+    then c .before .before .before .before .before .length-word3 .ensures
+    then c .before .before .before .before .entry-word .ensures
+    then c .before .before .before .entry-word2 .ensures
+    then no-more))
 
 pub check-lists-spec : {M : Type 1} → statement M
 check-lists-spec =

@@ -1,8 +1,10 @@
+use mathlib.Core.Path.{ap, _∙_}
 use denote.Ref.{now}
+use lib.ListN.{length}
 use borrow.Author.Needs.{needs}
-use Rattle.definitions.specs.Refusals.{productNumber}
+use Rattle.definitions.specs.Refusals.{firstWord, productNumber}
 use Rattle.checks.specs.Accepted.{productWords}
-use Rattle.checks.proofs.Making.{panel-refused, past-panel, these-words}
+use Rattle.checks.proofs.Making.{panel-refused, past-panel, these-words, _then_, no-more, table-length}
 use Rattle.checks.proofs.check_product.Statement.{statement}
 use Rattle.checks.proofs.check_product.Tie as tie
 
@@ -44,7 +46,16 @@ returns-2 : tie.Need-returns-2
 unfolding productNumber
 returns-2 c =
     let s = c .before .before .before .before .before .before .before .before .before .before .before .before .before .args in
-    past-panel (s .n) (search needs) (these-words (productWords (s .n) (s .m) (now (s .a)) (now (s .b)) (s .result) (s .workspace)) (c .check-modulus .ensures) (cc))
+    let long = c .before .before .before .before .before .before .before .before .before .power .ensures in
+    past-panel (s .n) (search needs) (these-words (productWords (s .n) (s .m) (now (s .a)) (now (s .b)) (s .result) (s .workspace)) (c .check-modulus .ensures) (c .before .first-word .ensures
+    ∙ ap firstWord
+    (table-length (s .n) (length (now (s .a))) (c .before .before .before .before .before .before .before .before .length-word .ensures) long
+    then table-length (s .n) (length (now (s .b))) (c .before .before .before .before .before .before .before .length-word2 .ensures) long
+    then table-length (s .n) (s .result) (c .before .before .before .before .before .before .length-word3 .ensures) long
+    then c .before .before .before .before .before .pad-word .ensures
+    then c .before .before .before .before .entry-word .ensures
+    then c .before .before .before .entry-word2 .ensures
+    then no-more)))
 
 pub check-product-spec : {M : Type 1} → statement M
 check-product-spec =

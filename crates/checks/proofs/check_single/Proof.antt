@@ -1,8 +1,10 @@
+use mathlib.Core.Path.{ap, _∙_}
 use denote.Ref.{now}
+use lib.ListN.{length}
 use borrow.Author.Needs.{needs}
-use Rattle.definitions.specs.Refusals.{singleNumber}
+use Rattle.definitions.specs.Refusals.{firstWord, singleNumber}
 use Rattle.checks.specs.Accepted.{singleWords}
-use Rattle.checks.proofs.Making.{panel-refused, past-panel, these-words}
+use Rattle.checks.proofs.Making.{panel-refused, past-panel, these-words, _then_, no-more, table-length}
 use Rattle.checks.proofs.check_single.Statement.{statement}
 use Rattle.checks.proofs.check_single.Tie as tie
 
@@ -38,7 +40,14 @@ returns-2 : tie.Need-returns-2
 unfolding singleNumber
 returns-2 c =
     let s = c .before .before .before .before .before .before .before .before .before .before .args in
-    past-panel (s .n) (search needs) (these-words (singleWords (s .n) (s .m) (now (s .a)) (s .result) (s .workspace)) (c .check-modulus .ensures) (cc))
+    let long = c .before .before .before .before .before .before .before .power .ensures in
+    past-panel (s .n) (search needs) (these-words (singleWords (s .n) (s .m) (now (s .a)) (s .result) (s .workspace)) (c .check-modulus .ensures) (c .before .first-word .ensures
+    ∙ ap firstWord
+    (table-length (s .n) (length (now (s .a))) (c .before .before .before .before .before .before .length-word .ensures) long
+    then table-length (s .n) (s .result) (c .before .before .before .before .before .length-word2 .ensures) long
+    then c .before .before .before .before .pad-word .ensures
+    then c .before .before .before .entry-word .ensures
+    then no-more)))
 
 pub check-single-spec : {M : Type 1} → statement M
 check-single-spec =

@@ -1,7 +1,10 @@
+use mathlib.Core.Path.{ap, _∙_}
 use denote.Ref.{now}
+use lib.ListN.{length}
 use borrow.Author.Needs.{needs}
+use Rattle.definitions.specs.Refusals.{firstWord}
 use Rattle.checks.specs.Accepted.{tableWords}
-use Rattle.checks.proofs.Making.{panel-refused, past-panel, these-words}
+use Rattle.checks.proofs.Making.{panel-refused, past-panel, these-words, _then_, no-more, table-length}
 use Rattle.checks.proofs.check_table.Statement.{statement}
 use Rattle.checks.proofs.check_table.Tie as tie
 
@@ -29,7 +32,12 @@ check-modulus-requires c κs = search needs
 returns-2 : tie.Need-returns-2
 returns-2 c =
     let s = c .before .before .before .before .before .before .before .before .args in
-    past-panel (s .n) (search needs) (these-words (tableWords (s .n) (s .m) (now (s .a))) (c .check-modulus .ensures) (cc))
+    let long = c .before .before .before .before .before .power .ensures in
+    past-panel (s .n) (search needs) (these-words (tableWords (s .n) (s .m) (now (s .a))) (c .check-modulus .ensures) (c .before .first-word .ensures
+    ∙ ap firstWord
+    (table-length (s .n) (length (now (s .a))) (c .before .before .before .before .length-word .ensures) long
+    then c .before .before .before .entry-word .ensures
+    then no-more)))
 
 pub check-table-spec : {M : Type 1} → statement M
 check-table-spec =

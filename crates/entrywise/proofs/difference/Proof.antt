@@ -6,7 +6,7 @@ use Rattle.definitions.specs.Products.{residues, differenceTable}
 use Rattle.checks.specs.Accepted.{sum-accepted}
 use Rattle.checks.specs.Answers.{accepted, refused, word-kept}
 use Rattle.entrywise.specs.Rules.{differenceAt}
-use Rattle.entrywise.proofs.Ends.{inputs, tabled}
+use Rattle.pointwise.specs.Pairs.{inputs, tabled}
 use Rattle.entrywise.proofs.difference.Statement.{statement}
 use Rattle.entrywise.proofs.difference.Tie as tie
 

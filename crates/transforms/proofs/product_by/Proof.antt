@@ -1,7 +1,7 @@
 use mathlib.Core.Path.{sym, _∙_}
 use native.Mathlib.Omega.{arith}
 use denote.Ref.{now}
-use Rattle.transforms.proofs.Steps.{table-fits, front, cleared-front}
+use Rattle.transforms.proofs.Workspace.{table-fits, front, cleared-front}
 use borrow.Author.Needs.{needs}
 use Rattle.transforms.proofs.product_by.Statement.{statement}
 use Rattle.transforms.proofs.product_by.Tie as tie

@@ -1,0 +1,6 @@
+mod Blocks
+mod Table
+mod Controls
+mod Fours
+mod Halving
+mod Steps
