@@ -2,8 +2,8 @@ use native.Mathlib.Omega.{arith}
 use Rattle.definitions.specs.Products.{degree, degreeBound}
 use Rattle.theory.specs.Degree.{degree-most}
 use borrow.Author.Needs.{needs}
-use Rattle.subset_product.proofs.degree_bound.Statement.{statement}
-use Rattle.subset_product.proofs.degree_bound.Tie as tie
+use Rattle.degrees.proofs.degree_bound.Statement.{statement}
+use Rattle.degrees.proofs.degree_bound.Tie as tie
 
 degree-requires : tie.Need-degree-requires
 degree-requires c κs = search needs

@@ -13,8 +13,8 @@ use Rattle.definitions.specs.Sums.{at, largest}
 use Rattle.definitions.specs.Sets.{size}
 use Rattle.definitions.specs.Products.{degree}
 use Rattle.theory.specs.Sums.{largest-last}
-use Rattle.subset_product.proofs.degree.Statement.{statement}
-use Rattle.subset_product.proofs.degree.Tie as tie
+use Rattle.degrees.proofs.degree.Statement.{statement}
+use Rattle.degrees.proofs.degree.Tie as tie
 
 -- the largest size of a set below h with a nonzero entry
 abbrev sizesTo : List ℕ → ℕ → ℕ

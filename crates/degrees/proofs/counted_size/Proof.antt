@@ -1,7 +1,7 @@
 use borrow.Author.Tests.{eq-eqb, ne-eqb}
 use borrow.Author.Needs.{needs}
-use Rattle.subset_product.proofs.counted_size.Statement.{statement}
-use Rattle.subset_product.proofs.counted_size.Tie as tie
+use Rattle.degrees.proofs.counted_size.Statement.{statement}
+use Rattle.degrees.proofs.counted_size.Tie as tie
 
 size-by-requires : tie.Need-size-by-requires
 size-by-requires c κs = search needs
