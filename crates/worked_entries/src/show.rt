@@ -1,47 +1,39 @@
-// A line of output for each case.
-use printing::entries;
-use printing::number;
-use printing::text;
+// A line of output for each case, in parts.
+use crate::fields;
+use lines::entries;
+use lines::mark;
+use lines::number;
+use lines::part;
+use lines::text;
 
-// The name of a case and the number that its call returned.
-fn outcome(name: &[u8], returned: u32) {
-    text(name);
+fn between(before: u8, list: &[u32], after: u8) {
+    mark(before);
+    entries(list);
+    mark(after);
+}
+
+// The name of a case, the number that its call returned, and the table or the row.
+pub fn outcome(line: &[u8], returned: u32, result: &[u32]) {
+    text(part(line, b'|', 0));
     text(b": ");
+    number(returned);
+    mark(b' ');
+    if fields::call(line) == b'b' {
+        between(b'(', result, b')');
+    } else {
+        between(b'[', result, b']');
+    }
+}
+
+pub fn ceiling(returned: u32) {
+    text(b", ceiling ");
     number(returned);
 }
 
-fn bracketed(list: &[u32]) {
-    text(b" [");
-    entries(list);
-    text(b"]");
-}
-
-pub fn table(name: &[u8], returned: u32, result: &[u32]) {
-    outcome(name, returned);
-    bracketed(result);
-    text(b"\n");
-}
-
-pub fn row(name: &[u8], returned: u32, result: &[u32]) {
-    outcome(name, returned);
-    text(b" (");
-    entries(result);
-    text(b")\n");
-}
-
-// Of a call with a pad, which was lent full of 9s.
-pub fn table_and_pad(name: &[u8], returned: u32, result: &[u32], pad: &[u32]) {
-    outcome(name, returned);
-    bracketed(result);
-    printing::pad(pad, 9);
-    text(b"\n");
-}
-
-pub fn product(name: &[u8], returned: u32, ceiling: u32, result: &[u32], pad: &[u32]) {
-    outcome(name, returned);
-    bracketed(result);
-    text(b", ceiling ");
-    number(ceiling);
-    printing::pad(pad, 9);
-    text(b"\n");
+// What became of the pad that was lent, if one was.
+pub fn pad(pad: &[u32]) {
+    if 0 < pad.len() {
+        lines::pad(pad, 9);
+    }
+    mark(b'\n');
 }

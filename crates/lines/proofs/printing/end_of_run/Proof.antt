@@ -1,8 +1,8 @@
 use Prim.Native.Nat.{_≤_, _-_}
 use lib.ListN.{length}
 use borrow.Author.Needs.{needs}
-use Rattle.printing.proofs.end_of_run.Statement.{statement}
-use Rattle.printing.proofs.end_of_run.Tie as tie
+use Rattle.lines.proofs.printing.end_of_run.Statement.{statement}
+use Rattle.lines.proofs.printing.end_of_run.Tie as tie
 
 abbrev Inv-loop : tie.InvT-loop
 Inv-loop list from x i₀ i = from ≤ i

@@ -6,6 +6,10 @@ pub fn text(bytes: &[u8]) {
     io::write_all(STDOUT_FILENO, bytes);
 }
 
+pub fn mark(byte: u8) {
+    text(&[byte]);
+}
+
 fn wide(x: u32) -> u64 {
     x as u64
 }
@@ -23,7 +27,7 @@ pub fn entries(list: &[u32]) {
     let mut i = 0;
     while i < list.len() {
         if 0 < i {
-            text(b",");
+            mark(b',');
         }
         number(list[i]);
         i += 1;
