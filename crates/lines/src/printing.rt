@@ -14,12 +14,16 @@ fn wide(x: u32) -> u64 {
     x as u64
 }
 
+pub fn long_number(x: u64) {
+    io::print_decimal(STDOUT_FILENO, x);
+}
+
 pub fn number(x: u32) {
-    io::print_decimal(STDOUT_FILENO, wide(x));
+    long_number(wide(x));
 }
 
 pub fn count(x: usize) {
-    io::print_decimal(STDOUT_FILENO, x as u64);
+    long_number(x as u64);
 }
 
 // The numbers of a table or a row, with commas between.

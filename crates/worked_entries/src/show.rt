@@ -1,9 +1,7 @@
 // A line of output for each case, in parts.
-use crate::fields;
 use lines::entries;
+use lines::long_number;
 use lines::mark;
-use lines::number;
-use lines::part;
 use lines::text;
 
 fn between(before: u8, list: &[u32], after: u8) {
@@ -12,22 +10,31 @@ fn between(before: u8, list: &[u32], after: u8) {
     mark(after);
 }
 
-// The name of a case, the number that its call returned, and the table or the row.
-pub fn outcome(line: &[u8], returned: u32, result: &[u32]) {
-    text(part(line, b'|', 0));
-    text(b": ");
-    number(returned);
-    mark(b' ');
-    if fields::call(line) == b'b' {
+// A row in round brackets, a table in square ones.
+fn list(line: &[u8], result: &[u32]) {
+    if lines::call(line) == b'b' {
         between(b'(', result, b')');
     } else {
         between(b'[', result, b']');
     }
 }
 
-pub fn ceiling(returned: u32) {
-    text(b", ceiling ");
-    number(returned);
+// Only the subset product has one.
+fn ceiling(line: &[u8], returned: u64) {
+    if lines::call(line) == b's' {
+        text(b", ceiling ");
+        long_number(returned >> 32);
+    }
+}
+
+// The name of a case, the number that its call returned, what the result then holds, and the ceiling.
+pub fn outcome(line: &[u8], returned: u64, result: &[u32]) {
+    text(lines::name(line));
+    text(b": ");
+    long_number(returned & 4294967295);
+    mark(b' ');
+    list(line, result);
+    ceiling(line, returned);
 }
 
 // What became of the pad that was lent, if one was.

@@ -1,9 +1,13 @@
-// The calls, each by the first byte of its word.
-use crate::fields;
-use crate::show;
+// Each call by the first byte of its word, for programs that read which one to run.
 
-// What stands for the number of a call that there is not.
-const NO_CALL: u32 = 4294967295;
+// What stands for the number of a call that there is not, here and in the answer.
+const NONE: u32 = 4294967295;
+
+pub const NO_CALL: u64 = 4294967295;
+
+fn wide(x: u32) -> u64 {
+    x as u64
+}
 
 // Sum and difference of tables, binomial product of rows.
 fn entry_by_entry(call: u8, n: u32, m: u32, a: &[u32], b: &[u32], result: &mut [u32]) -> u32 {
@@ -11,11 +15,11 @@ fn entry_by_entry(call: u8, n: u32, m: u32, a: &[u32], b: &[u32], result: &mut [
         b'+' => entrywise::sum(n, m, a, b, result),
         b'-' => entrywise::difference(n, m, a, b, result),
         b'b' => entrywise::binomial_product(n, m, a, b, result),
-        _ => NO_CALL,
+        _ => NONE,
     }
 }
 
-// Products of two tables, composition of a table and a row.
+// Union and xor product of tables, composition of a table and a row.
 fn of_two(
     call: u8,
     n: u32,
@@ -50,33 +54,24 @@ fn of_one(
     }
 }
 
-fn without_ceiling(line: &[u8], a: &[u32], b: &[u32], result: &mut [u32], pad: &mut [u32]) -> bool {
-    let n = fields::controls(line);
-    let m = fields::modulus(line);
-    let returned = of_one(fields::call(line), n, m, a, b, result, pad);
-    if returned == NO_CALL {
-        return false;
-    }
-    show::outcome(line, returned, result);
-    show::pad(pad);
-    true
-}
-
-fn subset(line: &[u8], a: &[u32], b: &[u32], result: &mut [u32], pad: &mut [u32]) -> bool {
-    let n = fields::controls(line);
-    let m = fields::modulus(line);
+fn subset(n: u32, m: u32, a: &[u32], b: &[u32], result: &mut [u32], pad: &mut [u32]) -> u64 {
     let product = subset_product::subset_product(n, m, a, b, result, pad);
-    show::outcome(line, product.number, result);
-    show::ceiling(product.ceiling);
-    show::pad(pad);
-    true
+    wide(product.ceiling) << 32 | wide(product.number)
 }
 
-// Runs the call that a line names, and shows its outcome; false if there is no such call.
-pub fn run(line: &[u8], a: &[u32], b: &[u32], result: &mut [u32], pad: &mut [u32]) -> bool {
-    if fields::call(line) == b's' {
-        subset(line, a, b, result, pad)
+// Answers ceiling * 2^32 + number, as the C interface does; the ceiling is 0 for all but the subset product.
+pub fn run(
+    call: u8,
+    n: u32,
+    m: u32,
+    a: &[u32],
+    b: &[u32],
+    result: &mut [u32],
+    pad: &mut [u32],
+) -> u64 {
+    if call == b's' {
+        subset(n, m, a, b, result, pad)
     } else {
-        without_ceiling(line, a, b, result, pad)
+        wide(of_one(call, n, m, a, b, result, pad))
     }
 }
