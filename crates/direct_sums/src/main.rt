@@ -1,16 +1,53 @@
 // Larger tables than can be worked by hand: each call's result next to the sum over pairs of sets, or over partitions, added
-// up directly. A line for each comparison says how many entries differ, the number that the call returned and what it left
-// in its pad. Results and pads are lent full of the largest number.
+// up directly. Each line of standard input is a comparison:
+//
+//     name|call|n|m|first table|second table or row|length of the result|length of the pad|what it is compared with
+//
+// A table is random: its length, the most controls of a set with an entry, a seed and, where one is given, the first entry.
+// Printed is how many entries differ, the number that the call returned and what it left in its pad. Results and pads are
+// lent full of the largest number.
+mod compare;
 mod laws;
 mod numbers;
 mod pairs;
 mod partitions;
-mod products;
+mod random;
 mod report;
-mod series;
+
+use libc::STDIN_FILENO;
+
+// What a result and a pad hold when they are lent.
+const LENT: u32 = 4294967295;
+
+// The lengths are cut to what there is to lend, enough for 12 controls.
+fn lent(line: &[u8], a: &[u32], b: &[u32]) -> bool {
+    let mut table = [LENT; 4096];
+    let mut room = [LENT; 114691];
+    let result = lines::first(&mut table, lines::result_length(line));
+    let pad = lines::first(&mut room, lines::pad_length(line));
+    compare::compare(line, a, b, result, pad)
+}
+
+fn case(line: &[u8]) -> bool {
+    let mut first = [0u32; 4096];
+    let mut second = [0u32; 4096];
+    let m = lines::modulus(line);
+    let a = random::table(lines::first_list(line), m, &mut first);
+    let b = random::table(lines::second_list(line), m, &mut second);
+    lent(line, a, b)
+}
+
+fn cases(input: &[u8]) {
+    for k in 0..lines::marks(input, b'\n') {
+        if !case(lines::part(input, b'\n', k)) {
+            lines::text(b"no such call\n");
+            return;
+        }
+    }
+}
 
 fn main() {
-    products::comparisons();
-    series::comparisons();
-    laws::comparisons();
+    let mut input = [0u8; 16384];
+    let length = io::read_full(STDIN_FILENO, &mut input);
+    cases(&input[..length]);
 }

@@ -43,3 +43,7 @@ pub fn composition_table(a: &[u32], f: &[u32], m: u32, result: &mut [u32]) {
         s += 1;
     }
 }
+
+pub fn exponential_table(a: &[u32], m: u32, result: &mut [u32]) {
+    composition_table(a, &[1; 17], m, result);
+}
