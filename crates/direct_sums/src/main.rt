@@ -7,17 +7,23 @@
 // Printed is how many entries differ, the number that the call returned and what it left in its pad. Results and pads are
 // lent full of the largest number.
 mod compare;
-mod laws;
-mod numbers;
-mod pairs;
-mod partitions;
-mod random;
 mod report;
 
 use libc::STDIN_FILENO;
+use lines::value_at;
 
 // What a result and a pad hold when they are lent.
 const LENT: u32 = 4294967295;
+
+// False if there is no such call.
+fn run(line: &[u8], a: &[u32], b: &[u32], result: &mut [u32], pad: &mut [u32]) -> bool {
+    let n = lines::controls(line);
+    let m = lines::modulus(line);
+    let returned = calls::run(lines::call(line), n, m, a, b, result, pad);
+    report::comparison(line, returned, a, b, result);
+    report::pad(pad);
+    returned != calls::NO_CALL
+}
 
 // The lengths are cut to what there is to lend, enough for 12 controls.
 fn lent(line: &[u8], a: &[u32], b: &[u32]) -> bool {
@@ -25,15 +31,28 @@ fn lent(line: &[u8], a: &[u32], b: &[u32]) -> bool {
     let mut room = [LENT; 114691];
     let result = lines::first(&mut table, lines::result_length(line));
     let pad = lines::first(&mut room, lines::pad_length(line));
-    compare::compare(line, a, b, result, pad)
+    run(line, a, b, result, pad)
+}
+
+fn set_first(a: &mut [u32], number: &[u8]) {
+    if 0 < number.len() {
+        plain_sums::set_entry(a, 0, lines::value(number));
+    }
+}
+
+// The random table that a text describes.
+fn random<'a, 'b>(text: &'b [u8], m: u32, room: &'a mut [u32]) -> &'a mut [u32] {
+    plain_sums::fill(room, value_at(text, 1), value_at(text, 2), m);
+    set_first(room, lines::part(text, b' ', 3));
+    lines::first(room, lines::length_in(lines::part(text, b' ', 0)))
 }
 
 fn case(line: &[u8]) -> bool {
     let mut first = [0u32; 4096];
     let mut second = [0u32; 4096];
     let m = lines::modulus(line);
-    let a = random::table(lines::first_list(line), m, &mut first);
-    let b = random::table(lines::second_list(line), m, &mut second);
+    let a = random(lines::first_list(line), m, &mut first);
+    let b = random(lines::second_list(line), m, &mut second);
     lent(line, a, b)
 }
 

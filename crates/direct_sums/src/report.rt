@@ -1,31 +1,21 @@
 // One line for each comparison, in parts.
-use crate::numbers;
+use crate::compare::directly;
 use lines::count;
-use lines::long_number;
-use lines::number;
+use lines::labelled;
 use lines::text;
 
-pub fn subject(line: &[u8]) {
+fn subject(line: &[u8]) {
     text(lines::name(line));
-    text(b", ");
-    number(lines::controls(line));
-    text(b" controls, modulus ");
-    number(lines::modulus(line));
+    labelled(b", ", lines::controls(line));
+    labelled(b" controls, modulus ", lines::modulus(line));
     text(b": ");
 }
 
-// An inverse or a logarithm is put back, and compared with the second table: the unit, or the table that it came from.
-fn differing(line: &[u8], sums: &[u32], result: &[u32], b: &[u32]) -> usize {
-    match lines::initial(line, 8) {
-        b't' | b'e' | b'c' => numbers::differing(sums, b),
-        _ => numbers::differing(sums, result),
-    }
-}
-
-pub fn entries(line: &[u8], sums: &[u32], result: &[u32], b: &[u32]) {
-    count(sums.len());
+fn entries(line: &[u8], a: &[u32], b: &[u32], result: &[u32]) {
+    count(result.len());
     text(b" entries, ");
-    count(differing(line, sums, result, b));
+    let m = lines::modulus(line);
+    count(directly(lines::initial(line, 8), m, a, b, result));
     text(b" differ");
 }
 
@@ -41,20 +31,27 @@ fn bound(n: u32, a: u32, b: u32) -> u32 {
 }
 
 // Only the subset product has one.
-pub fn ceiling(line: &[u8], returned: u64, a: &[u32], b: &[u32]) {
+fn ceiling(line: &[u8], returned: u64, a: &[u32], b: &[u32]) {
     if lines::call(line) == b's' {
         let n = lines::controls(line);
         text(b", ceiling ");
-        long_number(returned >> 32);
-        text(b" (directly ");
-        number(bound(n, numbers::ceiling(a), numbers::ceiling(b)));
-        text(b")");
+        lines::long_number(returned >> 32);
+        let size = bound(n, plain_sums::ceiling(a), plain_sums::ceiling(b));
+        labelled(b" (directly ", size);
+        lines::mark(b')');
     }
 }
 
-pub fn outcome(returned: u64, pad: &[u32]) {
+pub fn comparison(line: &[u8], returned: u64, a: &[u32], b: &[u32], result: &[u32]) {
+    subject(line);
+    entries(line, a, b, result);
+    ceiling(line, returned, a, b);
     text(b", number ");
-    long_number(returned);
+    lines::long_number(returned & 4294967295);
+}
+
+// Of a pad that was lent full of the largest number.
+pub fn pad(pad: &[u32]) {
     lines::pad(pad, crate::LENT);
-    text(b"\n");
+    lines::mark(b'\n');
 }

@@ -18,8 +18,13 @@ pub fn long_number(x: u64) {
     io::print_decimal(STDOUT_FILENO, x);
 }
 
-pub fn number(x: u32) {
+fn number(x: u32) {
     long_number(wide(x));
+}
+
+pub fn labelled(label: &[u8], x: u32) {
+    text(label);
+    number(x);
 }
 
 pub fn count(x: usize) {

@@ -117,10 +117,15 @@ fn words(text: &[u8]) -> usize {
     }
 }
 
+// Number k of a text, with one blank between; 0 where there are fewer.
+pub fn value_at(text: &[u8], k: usize) -> u32 {
+    value(part(text, b' ', k))
+}
+
 fn read(text: &[u8], list: &mut [u32]) {
     let mut k = 0;
     while k < list.len() {
-        list[k] = value(part(text, b' ', k));
+        list[k] = value_at(text, k);
         k += 1;
     }
 }

@@ -2,15 +2,15 @@ use borrow.Author.Needs.{needs}
 use Prim.Native.Nat.{ℕ, _<_, _≤_}
 use borrow.Fn.Kinds.{In}
 use borrow.Fn.PlainCycle.{Measures, is, falls, and}
-use Rattle.direct_sums.proofs.partitions.over_rest.Reads as over-rest
-use Rattle.direct_sums.proofs.partitions.over_rest.Kinds as over-rest-kinds
-use Rattle.direct_sums.proofs.partitions.+over_rest.Lts-over_rest as over-rest-lts
-use Rattle.direct_sums.proofs.numbers.entry.Reads as entry-reads
-use Rattle.direct_sums.proofs.numbers.plus.Reads as plus-reads
-use Rattle.direct_sums.proofs.numbers.times.Reads as times-reads
-use Rattle.direct_sums.proofs.partitions.is_block.Reads as is-block-reads
-use Rattle.direct_sums.proofs.partitions.+over_rest.{statement}
-use Rattle.direct_sums.proofs.partitions.+over_rest.Tie.{close}
+use Rattle.plain_sums.proofs.partitions.over_rest.Reads as over-rest
+use Rattle.plain_sums.proofs.partitions.over_rest.Kinds as over-rest-kinds
+use Rattle.plain_sums.proofs.partitions.+over_rest.Lts-over_rest as over-rest-lts
+use Rattle.plain_sums.proofs.numbers.entry.Reads as entry-reads
+use Rattle.plain_sums.proofs.numbers.plus.Reads as plus-reads
+use Rattle.plain_sums.proofs.numbers.times.Reads as times-reads
+use Rattle.plain_sums.proofs.partitions.is_block.Reads as is-block-reads
+use Rattle.plain_sums.proofs.partitions.+over_rest.{statement}
+use Rattle.plain_sums.proofs.partitions.+over_rest.Tie.{close}
 
 abbrev μ-over-rest : Measures 2 over-rest-kinds.ps ℕ
 μ-over-rest κs a = a .1 .1 .1 .0

@@ -2,14 +2,14 @@ use borrow.Author.Needs.{needs}
 use Prim.Native.Nat.{_≤_, _-_}
 use lib.ListN.{length}
 use mathlib.Core.Path.{_≡_}
-use Rattle.direct_sums.proofs.pairs.pair_table.Statement.{statement}
-use Rattle.direct_sums.proofs.pairs.pair_table.Tie as tie
+use Rattle.plain_sums.proofs.pairs.pair_table.Statement.{statement}
+use Rattle.plain_sums.proofs.pairs.pair_table.Tie as tie
 
 abbrev Inv-loop : tie.InvT-loop
-Inv-loop a b union m result₀ l₀ result l = (l ≤ length a) × (length result ≡ length result₀)
+Inv-loop how a b m result₀ l₀ result l = (l ≤ length a) × (length result ≡ length result₀)
 
 abbrev μ-loop : tie.MeasureT-loop
-μ-loop a b union m result₀ l₀ result l = length a - l
+μ-loop how a b m result₀ l₀ result l = length a - l
 
 loop-holds : tie.Need-loop-holds Inv-loop μ-loop
 loop-holds c = search needs

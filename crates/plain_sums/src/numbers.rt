@@ -1,4 +1,4 @@
-// Arithmetic modulo m and access to tables for the direct sums, written without the library's own.
+// Arithmetic modulo m and access to tables.
 ghost use mathlib.Core.Path.{_≡_};
 
 fn wide(x: u32) -> u64

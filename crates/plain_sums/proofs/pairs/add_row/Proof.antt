@@ -2,17 +2,20 @@ use lib.ListN.{length}
 use mathlib.Core.Path.{_≡_}
 use Prim.Native.Nat.{_-_, _≤_}
 use borrow.Author.Needs.{needs}
-use Rattle.direct_sums.proofs.pairs.add_row.Statement.{statement}
-use Rattle.direct_sums.proofs.pairs.add_row.Tie as tie
+use Rattle.plain_sums.proofs.pairs.add_row.Statement.{statement}
+use Rattle.plain_sums.proofs.pairs.add_row.Tie as tie
 
 abbrev Inv-loop : tie.InvT-loop
-Inv-loop a b l union m result₀ r₀ result r = (r ≤ length b) × (length result ≡ length result₀)
+Inv-loop how a b l m result₀ r₀ result r = (r ≤ length b) × (length result ≡ length result₀)
 
 abbrev μ-loop : tie.MeasureT-loop
-μ-loop a b l union m result₀ r₀ result r = length b - r
+μ-loop how a b l m result₀ r₀ result r = length b - r
 
 loop-holds : tie.Need-loop-holds Inv-loop μ-loop
 loop-holds c = search needs
+
+joined-requires : tie.Need-joined-requires Inv-loop μ-loop
+joined-requires c κs = search needs
 
 entry-requires : tie.Need-entry-requires Inv-loop μ-loop
 entry-requires c κs = search needs
@@ -54,6 +57,7 @@ add-row-spec =
     Inv-loop
     μ-loop
     loop-holds
+    joined-requires
     entry-requires
     entry-requires-2
     times-requires

@@ -1,7 +1,7 @@
-use Rattle.direct_sums.proofs.Wide.{below}
+use Rattle.plain_sums.proofs.Wide.{below}
 use borrow.Author.Needs.{needs}
-use Rattle.direct_sums.proofs.numbers.product.Statement.{statement}
-use Rattle.direct_sums.proofs.numbers.product.Tie as tie
+use Rattle.plain_sums.proofs.numbers.product.Statement.{statement}
+use Rattle.plain_sums.proofs.numbers.product.Tie as tie
 
 wide-requires : tie.Need-wide-requires
 wide-requires c κs = search needs

@@ -2,8 +2,8 @@ use borrow.Author.Needs.{needs}
 use Prim.Native.Nat.{_≤_, _-_}
 use lib.ListN.{length}
 use mathlib.Core.Path.{_≡_}
-use Rattle.direct_sums.proofs.random.fill.Statement.{statement}
-use Rattle.direct_sums.proofs.random.fill.Tie as tie
+use Rattle.plain_sums.proofs.random.fill.Statement.{statement}
+use Rattle.plain_sums.proofs.random.fill.Tie as tie
 
 abbrev Inv-loop : tie.InvT-loop
 Inv-loop a₀ most seed m state₀ s₀ a state s = (s ≤ length a₀) × (length a ≡ length a₀)

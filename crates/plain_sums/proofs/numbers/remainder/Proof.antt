@@ -1,8 +1,8 @@
 use native.Mathlib.Nat.{mod-lt}
 use native.Mathlib.Omega.{arith}
 use borrow.Author.Needs.{needs}
-use Rattle.direct_sums.proofs.numbers.remainder.Statement.{statement}
-use Rattle.direct_sums.proofs.numbers.remainder.Tie as tie
+use Rattle.plain_sums.proofs.numbers.remainder.Statement.{statement}
+use Rattle.plain_sums.proofs.numbers.remainder.Tie as tie
 
 wide-requires : tie.Need-wide-requires
 wide-requires c κs = search needs

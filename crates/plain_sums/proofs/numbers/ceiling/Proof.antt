@@ -1,8 +1,8 @@
 use borrow.Author.Needs.{needs}
 use Prim.Native.Nat.{_≤_, _-_}
 use lib.ListN.{length}
-use Rattle.direct_sums.proofs.numbers.ceiling.Statement.{statement}
-use Rattle.direct_sums.proofs.numbers.ceiling.Tie as tie
+use Rattle.plain_sums.proofs.numbers.ceiling.Statement.{statement}
+use Rattle.plain_sums.proofs.numbers.ceiling.Tie as tie
 
 abbrev Inv-loop : tie.InvT-loop
 Inv-loop a found₀ s₀ found s = s ≤ length a

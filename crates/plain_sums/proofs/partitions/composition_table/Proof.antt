@@ -1,21 +1,21 @@
+use borrow.Author.Needs.{needs}
+use Prim.Native.Nat.{_≤_, _-_}
 use lib.ListN.{length}
 use mathlib.Core.Path.{_≡_}
-use Prim.Native.Nat.{_-_, _≤_}
-use borrow.Author.Needs.{needs}
-use Rattle.direct_sums.proofs.pairs.subset_table.Statement.{statement}
-use Rattle.direct_sums.proofs.pairs.subset_table.Tie as tie
+use Rattle.plain_sums.proofs.partitions.composition_table.Statement.{statement}
+use Rattle.plain_sums.proofs.partitions.composition_table.Tie as tie
 
 abbrev Inv-loop : tie.InvT-loop
-Inv-loop a b m result₀ s₀ result s = (s ≤ length result₀) × (length result ≡ length result₀)
+Inv-loop a f m result₀ s₀ result s = (s ≤ length result₀) × (length result ≡ length result₀)
 
 abbrev μ-loop : tie.MeasureT-loop
-μ-loop a b m result₀ s₀ result s = length result₀ - s
+μ-loop a f m result₀ s₀ result s = length result₀ - s
 
 loop-holds : tie.Need-loop-holds Inv-loop μ-loop
 loop-holds c = search needs
 
-subset-entry-requires : tie.Need-subset-entry-requires Inv-loop μ-loop
-subset-entry-requires c κs = search needs
+over-rest-requires : tie.Need-over-rest-requires Inv-loop μ-loop
+over-rest-requires c κs = search needs
 
 set-entry-requires : tie.Need-set-entry-requires Inv-loop μ-loop
 set-entry-requires c κs = search needs
@@ -35,14 +35,14 @@ same-length c = search needs
 returns : tie.Need-returns Inv-loop μ-loop
 returns c = search needs
 
-pub subset-table-spec : {M : Type 1} → statement M
-subset-table-spec =
+pub composition-table-spec : {M : Type 1} → statement M
+composition-table-spec =
     tie.close
     (tie.spec
     Inv-loop
     μ-loop
     loop-holds
-    subset-entry-requires
+    over-rest-requires
     set-entry-requires
     add-s
     loop-less

@@ -3,8 +3,8 @@ use native.Mathlib.Omega.{arith}
 use lib.ListN.{length}
 use Prim.Native.Nat.{_-_, _≤_}
 use borrow.Author.Needs.{needs}
-use Rattle.direct_sums.proofs.numbers.differing.Statement.{statement}
-use Rattle.direct_sums.proofs.numbers.differing.Tie as tie
+use Rattle.plain_sums.proofs.numbers.differing.Statement.{statement}
+use Rattle.plain_sums.proofs.numbers.differing.Tie as tie
 
 abbrev Inv-loop : tie.InvT-loop
 Inv-loop a b found₀ i₀ found i = (i ≤ length a) × (found ≤ i)
