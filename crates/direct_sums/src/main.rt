@@ -3,7 +3,7 @@
 //
 //     name|call|n|m|first table|second table or row|length of the result|length of the pad|what it is compared with
 //
-// A table is random: its length, the most controls of a set with an entry, a seed and, where one is given, the first entry.
+// A table is random: its length, the most controls of a set with an entry, a seed and the first entry.
 // Printed is how many entries differ, the number that the call returned and what it left in its pad. Results and pads are
 // lent full of the largest number.
 mod compare;
@@ -34,16 +34,10 @@ fn lent(line: &[u8], a: &[u32], b: &[u32]) -> bool {
     run(line, a, b, result, pad)
 }
 
-fn set_first(a: &mut [u32], number: &[u8]) {
-    if 0 < number.len() {
-        plain_sums::set_entry(a, 0, lines::value(number));
-    }
-}
-
 // The random table that a text describes.
 fn random<'a, 'b>(text: &'b [u8], m: u32, room: &'a mut [u32]) -> &'a mut [u32] {
-    plain_sums::fill(room, value_at(text, 1), value_at(text, 2), m);
-    set_first(room, lines::part(text, b' ', 3));
+    let first = value_at(text, 3);
+    plain_sums::fill_from(room, first, value_at(text, 1), value_at(text, 2), m);
     lines::first(room, lines::length_in(lines::part(text, b' ', 0)))
 }
 

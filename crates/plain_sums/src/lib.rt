@@ -3,12 +3,9 @@ mod numbers;
 mod pairs;
 mod partitions;
 mod random;
+mod words;
 
 pub use numbers::ceiling;
 pub use numbers::differing;
-pub use numbers::set_entry;
-pub use pairs::exponential_by_lowest;
-pub use pairs::pair_table;
-pub use partitions::composition_table;
-pub use partitions::exponential_table;
-pub use random::fill;
+pub use random::fill_from;
+pub use words::add_up;
