@@ -24,5 +24,4 @@ pub use reading::length_in;
 pub use reading::marks;
 pub use reading::numbers;
 pub use reading::part;
-pub use reading::value;
 pub use reading::value_at;
