@@ -1,53 +1,57 @@
-// One line for each comparison.
-use printing::count;
-use printing::number;
-use printing::text;
+// One line for each comparison, in parts.
+use crate::compare::directly;
+use lines::count;
+use lines::labelled;
+use lines::text;
 
-// What a result and a pad hold when they are lent.
-pub const LENT: u32 = 4294967295;
-
-pub fn subject(name: &[u8], n: u32, m: u32) {
-    text(name);
-    text(b", ");
-    number(n);
-    text(b" controls, modulus ");
-    number(m);
+fn subject(line: &[u8]) {
+    text(lines::name(line));
+    labelled(b", ", lines::controls(line));
+    labelled(b" controls, modulus ", lines::modulus(line));
     text(b": ");
 }
 
-// Past the end, an entry of 0 is expected.
-pub fn entries(result: &[u32], expected: &[u32]) {
+fn entries(line: &[u8], a: &[u32], b: &[u32], result: &[u32]) {
     count(result.len());
     text(b" entries, ");
-    count(crate::numbers::differing(result, expected));
+    let m = lines::modulus(line);
+    count(directly(lines::initial(line, 8), m, a, b, result));
     text(b" differ");
 }
 
-pub fn ceiling(returned: u32, expected: u32) {
-    text(b", ceiling ");
-    number(returned);
-    text(b" (directly ");
-    number(expected);
-    text(b")");
+// The smaller of n and a + b.
+fn bound(n: u32, a: u32, b: u32) -> u32 {
+    if n <= a {
+        n
+    } else if n - a <= b {
+        n
+    } else {
+        a + b
+    }
 }
 
-pub fn outcome(returned: u32, pad: &[u32]) {
+// Only the subset product has one.
+fn ceiling(line: &[u8], returned: u64, a: &[u32], b: &[u32]) {
+    if lines::call(line) == b's' {
+        let n = lines::controls(line);
+        text(b", ceiling ");
+        lines::long_number(returned >> 32);
+        let size = bound(n, plain_sums::ceiling(a), plain_sums::ceiling(b));
+        labelled(b" (directly ", size);
+        lines::mark(b')');
+    }
+}
+
+pub fn comparison(line: &[u8], returned: u64, a: &[u32], b: &[u32], result: &[u32]) {
+    subject(line);
+    entries(line, a, b, result);
+    ceiling(line, returned, a, b);
     text(b", number ");
-    number(returned);
-    printing::pad(pad, LENT);
-    text(b"\n");
+    lines::long_number(returned & 4294967295);
 }
 
-pub fn comparison(
-    name: &[u8],
-    n: u32,
-    m: u32,
-    result: &[u32],
-    expected: &[u32],
-    returned: u32,
-    pad: &[u32],
-) {
-    subject(name, n, m);
-    entries(result, expected);
-    outcome(returned, pad);
+// Of a pad that was lent full of the largest number.
+pub fn pad(pad: &[u32]) {
+    lines::pad(pad, crate::LENT);
+    lines::mark(b'\n');
 }

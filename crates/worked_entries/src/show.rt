@@ -1,47 +1,46 @@
-// A line of output for each case.
-use printing::entries;
-use printing::number;
-use printing::text;
+// A line of output for each case, in parts.
+use lines::entries;
+use lines::long_number;
+use lines::mark;
+use lines::text;
 
-// The name of a case and the number that its call returned.
-fn outcome(name: &[u8], returned: u32) {
-    text(name);
-    text(b": ");
-    number(returned);
-}
-
-fn bracketed(list: &[u32]) {
-    text(b" [");
+fn between(before: u8, list: &[u32], after: u8) {
+    mark(before);
     entries(list);
-    text(b"]");
+    mark(after);
 }
 
-pub fn table(name: &[u8], returned: u32, result: &[u32]) {
-    outcome(name, returned);
-    bracketed(result);
-    text(b"\n");
+// A row in round brackets, a table in square ones.
+fn list(line: &[u8], result: &[u32]) {
+    if lines::call(line) == b'b' {
+        between(b'(', result, b')');
+    } else {
+        between(b'[', result, b']');
+    }
 }
 
-pub fn row(name: &[u8], returned: u32, result: &[u32]) {
-    outcome(name, returned);
-    text(b" (");
-    entries(result);
-    text(b")\n");
+// Only the subset product has one.
+fn ceiling(line: &[u8], returned: u64) {
+    if lines::call(line) == b's' {
+        text(b", ceiling ");
+        long_number(returned >> 32);
+    }
 }
 
-// Of a call with a pad, which was lent full of 9s.
-pub fn table_and_pad(name: &[u8], returned: u32, result: &[u32], pad: &[u32]) {
-    outcome(name, returned);
-    bracketed(result);
-    printing::pad(pad, 9);
-    text(b"\n");
+// The name of a case, the number that its call returned, what the result then holds, and the ceiling.
+pub fn outcome(line: &[u8], returned: u64, result: &[u32]) {
+    text(lines::name(line));
+    text(b": ");
+    long_number(returned & 4294967295);
+    mark(b' ');
+    list(line, result);
+    ceiling(line, returned);
 }
 
-pub fn product(name: &[u8], returned: u32, ceiling: u32, result: &[u32], pad: &[u32]) {
-    outcome(name, returned);
-    bracketed(result);
-    text(b", ceiling ");
-    number(ceiling);
-    printing::pad(pad, 9);
-    text(b"\n");
+// What became of the pad that was lent, if one was.
+pub fn pad(pad: &[u32]) {
+    if 0 < pad.len() {
+        lines::pad(pad, 9);
+    }
+    mark(b'\n');
 }
