@@ -1,9 +1,11 @@
 // Runs of numbers in rows: one run added to another modulo m, or subtracted from it. Four numbers are read before one of them is
 // stored, so that the machine works them at once; where the last four overlap the four before them, both store the same there.
+ghost use mathlib.Core.Path.{_≡_};
 ghost use Prim.Native.Nat.{_+_, _<_, _≤_};
 ghost use lib.ListN.{length};
+ghost use Rattle.definitions.specs.Sums.{at};
 ghost use Rattle.residues.specs.Moduli.{Valid};
-ghost use Rattle.ranked_theory.specs.Rows.{plus, minus, stored, ofFour, Placed, Run, RunReady, Taken};
+ghost use Rattle.ranked_theory.specs.Rows.{plus, minus, stored, ofFour, Placed, Run, RunReady, PairReady, Taken};
 use residues::Modulus;
 
 // Four numbers that follow each other.
@@ -27,23 +29,26 @@ fn store_four(at: usize, values: Four, rows: &mut [u32])
     rows[at3] = values.fourth;
 }
 
-// What four numbers of a run become when it is added.
+// What one number of a run becomes when it is added.
+fn sum_at(modulus: Modulus, lo: usize, hi: usize, rows: &[u32]) -> u32
+    requires { ⌜ Valid modulus ⌝ }
+    requires { ⌜ PairReady (modulus .value) lo hi (now rows) ⌝ }
+    ensures { λ r. ⌜ r ≡ plus (modulus .value) (at (now (rows .entry)) hi) (at (now (rows .entry)) lo) ⌝ }
+{
+    modulus.add(rows[hi], rows[lo])
+}
+
+// What four numbers become.
 fn sums(modulus: Modulus, lo: usize, hi: usize, rows: &[u32]) -> Four
     requires { ⌜ Valid modulus ⌝ }
     requires { ⌜ RunReady (modulus .value) lo hi 4 (now rows) ⌝ }
     ensures { λ r. ⌜ Taken (plus (modulus .value)) lo hi (now (rows .entry)) (r .first) (r .second) (r .third) (r .fourth) ⌝ }
 {
-    let lo1 = lo + 1;
-    let lo2 = lo + 2;
-    let lo3 = lo + 3;
-    let hi1 = hi + 1;
-    let hi2 = hi + 2;
-    let hi3 = hi + 3;
     Four {
-        first: modulus.add(rows[hi], rows[lo]),
-        second: modulus.add(rows[hi1], rows[lo1]),
-        third: modulus.add(rows[hi2], rows[lo2]),
-        fourth: modulus.add(rows[hi3], rows[lo3]),
+        first: sum_at(modulus, lo, hi, rows),
+        second: sum_at(modulus, lo + 1, hi + 1, rows),
+        third: sum_at(modulus, lo + 2, hi + 2, rows),
+        fourth: sum_at(modulus, lo + 3, hi + 3, rows),
     }
 }
 
@@ -55,9 +60,8 @@ fn add_few(modulus: Modulus, lo: usize, hi: usize, count: usize, rows: &mut [u32
 {
     let mut i = 0;
     while i < count {
-        let low = lo + i;
-        let high = hi + i;
-        rows[high] = modulus.add(rows[high], rows[low]);
+        let place = hi + i;
+        rows[place] = sum_at(modulus, lo + i, place, rows);
         i += 1;
     }
 }
@@ -109,23 +113,26 @@ pub fn add_run(modulus: Modulus, lo: usize, hi: usize, count: usize, rows: &mut 
     }
 }
 
-// What four numbers of a run become when it is subtracted.
+// What one number of a run becomes when it is subtracted.
+fn difference_at(modulus: Modulus, lo: usize, hi: usize, rows: &[u32]) -> u32
+    requires { ⌜ Valid modulus ⌝ }
+    requires { ⌜ PairReady (modulus .value) lo hi (now rows) ⌝ }
+    ensures { λ r. ⌜ r ≡ minus (modulus .value) (at (now (rows .entry)) hi) (at (now (rows .entry)) lo) ⌝ }
+{
+    modulus.subtract(rows[hi], rows[lo])
+}
+
+// What four numbers become.
 fn differences(modulus: Modulus, lo: usize, hi: usize, rows: &[u32]) -> Four
     requires { ⌜ Valid modulus ⌝ }
     requires { ⌜ RunReady (modulus .value) lo hi 4 (now rows) ⌝ }
     ensures { λ r. ⌜ Taken (minus (modulus .value)) lo hi (now (rows .entry)) (r .first) (r .second) (r .third) (r .fourth) ⌝ }
 {
-    let lo1 = lo + 1;
-    let lo2 = lo + 2;
-    let lo3 = lo + 3;
-    let hi1 = hi + 1;
-    let hi2 = hi + 2;
-    let hi3 = hi + 3;
     Four {
-        first: modulus.subtract(rows[hi], rows[lo]),
-        second: modulus.subtract(rows[hi1], rows[lo1]),
-        third: modulus.subtract(rows[hi2], rows[lo2]),
-        fourth: modulus.subtract(rows[hi3], rows[lo3]),
+        first: difference_at(modulus, lo, hi, rows),
+        second: difference_at(modulus, lo + 1, hi + 1, rows),
+        third: difference_at(modulus, lo + 2, hi + 2, rows),
+        fourth: difference_at(modulus, lo + 3, hi + 3, rows),
     }
 }
 
@@ -137,9 +144,8 @@ fn subtract_few(modulus: Modulus, lo: usize, hi: usize, count: usize, rows: &mut
 {
     let mut i = 0;
     while i < count {
-        let low = lo + i;
-        let high = hi + i;
-        rows[high] = modulus.subtract(rows[high], rows[low]);
+        let place = hi + i;
+        rows[place] = difference_at(modulus, lo + i, place, rows);
         i += 1;
     }
 }

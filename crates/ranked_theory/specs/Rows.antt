@@ -47,6 +47,13 @@ pub record RunReady (m lo hi count : ℕ) (xs : List ℕ) : Type 0 where
   pub lower : (i : ℕ) → i < count → at xs (lo + i) < m
   pub upper : (i : ℕ) → i < count → at xs (hi + i) < m
 
+-- two numbers of a list, both residues
+pub record PairReady (m lo hi : ℕ) (xs : List ℕ) : Type 0 where
+  pub apart : lo < hi
+  pub long : hi < length xs
+  pub lower : at xs lo < m
+  pub upper : at xs hi < m
+
 -- ---- a row, and the row mid past it
 --
 -- Row h has the rank k of its factors at the places 2 (|h| - k) and 2 (|h| - k) + 1 and the rank |h| + i of the result at 2 n - i,

@@ -1,6 +1,6 @@
 -- Runs in pieces: a run of one or two numbers as it is stored, four numbers, and a run after another.
 --   run-one, run-two, placed-four     what stores of the right values make
---   first-lower, first-upper          the numbers that a run reads first are residues
+--   first-ready, pair-ready           what one number of a run takes
 --   run-join, later-ready             one run and the next; Running is the invariant of a loop over such pieces
 --   run-over                          a run, and its last four numbers over it
 use mathlib.Core.Path.{_≡_, refl, sym, ap₂, subst, _∙_}
@@ -12,16 +12,23 @@ use native.Mathlib.Omega.{arith}
 use lib.ListN.{length, set, length-set}
 use Rattle.definitions.specs.Sums.{at}
 use Rattle.theory.specs.Tests.{below-or}
-use Rattle.ranked_theory.specs.Rows.{Placed, Run, RunReady, Taken, ofFour}
+use Rattle.ranked_theory.specs.Rows.{Placed, Run, RunReady, PairReady, Taken, ofFour}
 use Rattle.ranked_theory.specs.Places.{placed-none, placed-more, placed-as}
 
--- ---- the first number
+-- ---- one number of a run
 
-pub first-lower : (m lo hi count : ℕ) (xs : List ℕ) → RunReady m lo hi count xs → 0 < count → at xs lo < m
-first-lower m lo hi count xs h l = subst (λ (j : ℕ). at xs j < m) (add-zero lo) (h .lower 0 l)
+pub first-ready : (m lo hi count : ℕ) (xs : List ℕ) → RunReady m lo hi count xs → 0 < count → PairReady m lo hi xs
+first-ready m lo hi count xs h l =
+    record {
+      apart = omega (arith, h .apart);
+      long = omega (arith, h .long);
+      lower = subst (λ (j : ℕ). at xs j < m) (add-zero lo) (h .lower 0 l);
+      upper = subst (λ (j : ℕ). at xs j < m) (add-zero hi) (h .upper 0 l);
+    }
 
-pub first-upper : (m lo hi count : ℕ) (xs : List ℕ) → RunReady m lo hi count xs → 0 < count → at xs hi < m
-first-upper m lo hi count xs h l = subst (λ (j : ℕ). at xs j < m) (add-zero hi) (h .upper 0 l)
+pub pair-ready : (m lo hi count i : ℕ) (xs : List ℕ) → RunReady m lo hi count xs → i < count → PairReady m (lo + i) (hi + i) xs
+pair-ready m lo hi count i xs h l =
+    record { apart = omega (arith, h .apart); long = omega (arith, h .long); lower = h .lower i l; upper = h .upper i l }
 
 -- ---- some stores
 

@@ -2,7 +2,7 @@ use native.Mathlib.Omega.{arith}
 use Prim.Native.Nat.{_+_, _-_, _≤_}
 use lib.ListN.{length, length-set}
 use Rattle.ranked_theory.specs.Rows.{minus}
-use Rattle.ranked_theory.specs.Runs.{Running, running-none, running-more, running-all, later-ready, first-lower, first-upper, run-one}
+use Rattle.ranked_theory.specs.Runs.{Running, running-none, running-more, running-all, later-ready, first-ready, run-one}
 use borrow.Author.Needs.{needs}
 use Rattle.ranked_runs.proofs.subtract_few.Statement.{statement}
 use Rattle.ranked_runs.proofs.subtract_few.Tie as tie
@@ -16,30 +16,18 @@ abbrev μ-loop : tie.MeasureT-loop
 loop-holds : tie.Need-loop-holds Inv-loop μ-loop
 loop-holds c = running-none _ _ _ _ _
 
-add-low : tie.Need-add-low Inv-loop μ-loop
-add-low c = search needs
+add-place : tie.Need-add-place Inv-loop μ-loop
+add-place c = search needs
 
-add-high : tie.Need-add-high Inv-loop μ-loop
-add-high c = search needs
+add-difference-at : tie.Need-add-difference-at Inv-loop μ-loop
+add-difference-at c = search needs
 
-mul-subtract : tie.Need-mul-subtract Inv-loop μ-loop
-mul-subtract c = search needs
-
-slice-read-subtract : tie.Need-slice-read-subtract Inv-loop μ-loop
-slice-read-subtract c = search needs
-
-mul-subtract-2 : tie.Need-mul-subtract-2 Inv-loop μ-loop
-mul-subtract-2 c = search needs
-
-slice-read-subtract-2 : tie.Need-slice-read-subtract-2 Inv-loop μ-loop
-slice-read-subtract-2 c = search needs
-
-subtract-requires : tie.Need-subtract-requires Inv-loop μ-loop
-subtract-requires c κs =
-    let s = c .before .before .before .before .before in
-    let v = c .before .before .before .loop .inv in
-    let next = later-ready (minus (s .args .modulus .value)) _ _ _ _ 1 _ (s .args .rows .now) _ (s .pre .1) (v .done) (v .long) (omega (arith, c .before .before .loop-test .taken)) in
-    (s .pre .0, record { first = first-upper _ _ _ _ _ next (omega arith); second = first-lower _ _ _ _ _ next (omega arith) })
+difference-at-requires : tie.Need-difference-at-requires Inv-loop μ-loop
+difference-at-requires c κs =
+    let s = c .before .before .before .before in
+    let v = c .before .before .loop .inv in
+    let next = later-ready (minus (s .args .modulus .value)) _ _ _ _ 1 _ (s .args .rows .now) _ (s .pre .1) (v .done) (v .long) (omega (arith, c .before .loop-test .taken)) in
+    (s .pre .0, first-ready _ _ _ _ _ next (omega arith))
 
 mul-rows : tie.Need-mul-rows Inv-loop μ-loop
 mul-rows c = search needs
@@ -55,14 +43,14 @@ loop-less c = search needs
 
 loop-again : tie.Need-loop-again Inv-loop μ-loop
 loop-again c =
-    let s = c .before .before .before .before .before .before in
+    let s = c .before .before .before .before .before in
     let a = s .args in
-    let at = c .before .before .before .before .loop in
-    let here : a .hi + at .i + 1 ≤ length (at .rows) = omega (arith, at .inv .long, s .pre .1 .long, c .before .before .before .loop-test .taken) in
+    let at = c .before .before .before .loop in
+    let here : a .hi + at .i + 1 ≤ length (at .rows) = omega (arith, at .inv .long, s .pre .1 .long, c .before .before .loop-test .taken) in
     running-more (minus (a .modulus .value)) (a .modulus .value) (a .lo) (a .hi) (a .count) (a .rows .now) _ _ (at .i) 1 (s .pre .1) (at .inv)
-    (run-one (minus (a .modulus .value)) (a .lo + at .i) (a .hi + at .i) _ _ here (c .subtract .ensures .same))
-    (length-set (at .rows) (a .hi + at .i) (c .subtract .result))
-    (omega (arith, c .before .before .before .loop-test .taken))
+    (run-one (minus (a .modulus .value)) (a .lo + at .i) (a .hi + at .i) _ _ here (c .difference-at .ensures))
+    (length-set (at .rows) (a .hi + at .i) (c .difference-at .result))
+    (omega (arith, c .before .before .loop-test .taken))
 
 same-length : tie.Need-same-length Inv-loop μ-loop
 same-length c = search needs
@@ -77,13 +65,9 @@ subtract-few-spec =
     Inv-loop
     μ-loop
     loop-holds
-    add-low
-    add-high
-    mul-subtract
-    slice-read-subtract
-    mul-subtract-2
-    slice-read-subtract-2
-    subtract-requires
+    add-place
+    add-difference-at
+    difference-at-requires
     mul-rows
     slice-write-rows
     add-i
