@@ -16,13 +16,14 @@ use Rattle.definitions.specs.Files as def
 use Rattle.number_groups.specs.NumberAnswers.{ReadsAt, outcomeOf}
 use Rattle.number_groups.specs.declared.Numeral.{Numeral}
 use Rattle.number_groups.specs.declared.NumberAnswer.the-variants.{Number, Refused}
+use Rattle.table_header.specs.HeaderAnswers.{AnswerIs, openingOutcome}
+use Rattle.table_header.specs.Words.{refuses}
+use Rattle.table_header.specs.Headers.{header-few}
+use Rattle.table_header.specs.declared.HeaderAnswer.{HeaderAnswer}
+use Rattle.table_header.specs.declared.HeaderAnswer.the-variants as header
+use Rattle.table_header.specs.declared.OpeningAnswer.the-variants as opening
 use Rattle.table_file.specs.Entries.{belowModulus, readEntry, entriesToEnd, placed, numberOrZero, numbersFrom, behindHeader, headerAt}
-use Rattle.table_file.specs.HeaderAnswers.{AnswerIs, openingOutcome}
-use Rattle.table_file.specs.Words.{refuses}
-use Rattle.table_file.specs.declared.header.HeaderAnswer.{HeaderAnswer}
-use Rattle.table_file.specs.declared.header.HeaderAnswer.the-variants as header
-use Rattle.table_file.specs.declared.header.OpeningAnswer.the-variants as opening
-use Rattle.table_file.specs.Reading.{ends, goes-on, stops, length-numbers, body-number, header-few, fileRead, in-order}
+use Rattle.table_file.specs.Reading.{ends, goes-on, stops, length-numbers, body-number, fileRead, in-order}
 
 differ : _≡_ {A = ℕ} 0 1 → ⊥
 differ e = omega arith

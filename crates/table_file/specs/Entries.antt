@@ -10,7 +10,7 @@ use Rattle.definitions.specs.Refusals.{wordIf, tableWord}
 use Rattle.definitions.specs.Groups as groups
 use Rattle.definitions.specs.Files.{Header, Entries, TableFile, readEntries, tailWord, readBody}
 use Rattle.number_groups.specs.declared.Numeral.{Numeral}
-use Rattle.table_file.specs.declared.header.Opening.{Opening}
+use Rattle.table_header.specs.declared.Opening.{Opening}
 
 -- an entry: a number (8) below m (5)
 abbrev pub belowModulus : ℕ → groups.Numeral → Outcome groups.Numeral

@@ -1,15 +1,124 @@
-// Table files: n, then m, then the 2^n entries of a table in rising code, then nothing. Header check and reader.
-mod header;
-mod reader;
+// Table files: n, then m, then the 2^n entries of a table in rising code, then nothing. The reader: header, table length,
+// entries and end, in file order. All is checked before the table is filled, so that a refusal leaves it as it came.
+ghost use mathlib.Core.Path.{_≡_};
+ghost use Prim.Native.Nat.{_≤_};
+ghost use lib.ListN.{length, drop};
+ghost use Rattle.definitions.specs.Limits.{mostControls};
+ghost use Rattle.definitions.specs.Outcomes.{numberOf};
+ghost use Rattle.definitions.specs.Files.{readerNumber, readerControls, readerModulus, tableRead, packed};
+ghost use Rattle.number_groups.specs.NumberAnswers.{outcomeOf};
+ghost use Rattle.table_header.specs.HeaderAnswers.{AnswerIs};
+ghost use Rattle.table_file.specs.Entries.{readEntry, entriesToEnd, placed, numberOrZero, numbersFrom, behindHeader, headerAt};
+use checks::MOST_CONTROLS;
+use checks::power;
+use number_groups::NumberAnswer;
+use number_groups::Numeral;
+use number_groups::read_number;
+pub use table_header::Header;
+pub use table_header::HeaderAnswer;
+pub use table_header::Opening;
+pub use table_header::OpeningAnswer;
+pub use table_header::header_check;
+pub use table_header::header_check_number;
+use table_header::packed_answer;
+pub use table_header::read_opening;
 
-pub use header::Header;
-pub use header::HeaderAnswer;
-pub use header::Opening;
-pub use header::OpeningAnswer;
-pub use header::header_check;
-pub use header::header_check_number;
-pub use header::read_opening;
-pub use reader::entries_word;
-pub use reader::fill_table;
-pub use reader::read_table;
-pub use reader::read_table_number;
+// The entry that stands at a place: 8, then 5.
+fn read_entry(m: u32, bytes: &[u8], at: usize) -> NumberAnswer
+    ensures { λ r. ⌜ outcomeOf (now (bytes .entry)) r ≡ readEntry m (drop at (now (bytes .entry))) ⌝ }
+{
+    match read_number(bytes, at) {
+        NumberAnswer::Number(entry) => {
+            if entry.value < m {
+                NumberAnswer::Number(entry)
+            } else {
+                NumberAnswer::Refused(5)
+            }
+        }
+        NumberAnswer::Refused(word) => NumberAnswer::Refused(word),
+    }
+}
+
+// The word of so many entries from a place on, and of the end behind them (9).
+pub fn entries_word(m: u32, count: usize, bytes: &[u8], at: usize) -> u32
+    ensures { λ r. ⌜ r ≡ numberOf (entriesToEnd count m (drop at (now (bytes .entry)))) ⌝ }
+{
+    let mut place = at;
+    let mut left = count;
+    while 0 < left {
+        match read_entry(m, bytes, place) {
+            NumberAnswer::Number(entry) => {
+                place = entry.next;
+            }
+            NumberAnswer::Refused(word) => {
+                return word;
+            }
+        }
+        left -= 1;
+    }
+    if place < bytes.len() { 9 } else { 0 }
+}
+
+// The number that stands at a place, and 0 if none does.
+fn number_or_zero(bytes: &[u8], at: usize) -> Numeral
+    ensures { λ r. ⌜ placed (now (bytes .entry)) r ≡ numberOrZero (drop at (now (bytes .entry))) ⌝ }
+{
+    match read_number(bytes, at) {
+        NumberAnswer::Number(entry) => entry,
+        NumberAnswer::Refused(_) => Numeral { value: 0, next: at },
+    }
+}
+
+// Fills a table with the numbers that stand from a place on.
+pub fn fill_table(bytes: &[u8], at: usize, table: &mut [u32])
+    ensures { λ _. ⌜ now (table .exit) ≡ numbersFrom (length (now (table .entry))) (drop at (now (bytes .entry))) ⌝ }
+{
+    let mut place = at;
+    let mut i = 0;
+    while i < table.len() {
+        let entry = number_or_zero(bytes, place);
+        table[i] = entry.value;
+        place = entry.next;
+        i += 1;
+    }
+}
+
+// Behind a header: the table's length, its entries and the end.
+fn table_word(opening: Opening, bytes: &[u8], long: usize) -> u32
+    requires { ⌜ opening .n ≤ mostControls ⌝ }
+    ensures { λ r. ⌜ r ≡ numberOf (behindHeader (headerAt (now (bytes .entry)) opening) long) ⌝ }
+{
+    if long != power(opening.n) {
+        return 3;
+    }
+    entries_word(opening.m, long, bytes, opening.next)
+}
+
+// The reader: n, m and the table of a file, for a lent table that has as many entries.
+pub fn read_table(bytes: &[u8], table: &mut [u32]) -> HeaderAnswer
+    ensures { λ r. ⌜ AnswerIs (readerNumber (now (bytes .entry)) (length (now (table .entry)))) (readerControls (now (bytes .entry)) (length (now (table .entry)))) (readerModulus (now (bytes .entry)) (length (now (table .entry)))) r ⌝ }
+    ensures { λ _. ⌜ now (table .exit) ≡ tableRead (now (bytes .entry)) (now (table .entry)) ⌝ }
+{
+    match read_opening(MOST_CONTROLS, bytes) {
+        OpeningAnswer::Opening(opening) => {
+            let word = table_word(opening, bytes, table.len());
+            if word != 0 {
+                return HeaderAnswer::Refused(word);
+            }
+            fill_table(bytes, opening.next, table);
+            HeaderAnswer::Header(Header {
+                n: opening.n,
+                m: opening.m,
+            })
+        }
+        OpeningAnswer::Refused(word) => HeaderAnswer::Refused(word),
+    }
+}
+
+// The reader for a host: its answer as one number.
+pub fn read_table_number(bytes: &[u8], table: &mut [u32]) -> u64
+    ensures { λ r. ⌜ r ≡ packed (readerControls (now (bytes .entry)) (length (now (table .entry)))) (readerModulus (now (bytes .entry)) (length (now (table .entry)))) (readerNumber (now (bytes .entry)) (length (now (table .entry)))) ⌝ }
+    ensures { λ _. ⌜ now (table .exit) ≡ tableRead (now (bytes .entry)) (now (table .entry)) ⌝ }
+{
+    packed_answer(read_table(bytes, table))
+}

@@ -11,11 +11,13 @@ use Rattle.definitions.specs.Outcomes.{Outcome, accepted, refused, andThen, num
 use Rattle.definitions.specs.Files.{Header, readHeader, readBody}
 use Rattle.definitions.specs.Show.{tableText, refusalText, readShown, textOf, shown, line}
 use Rattle.number_groups.specs.Stores.{sets-front}
+use Rattle.table_header.specs.HeaderAnswers.{openingOutcome}
+use Rattle.table_header.specs.Words.{accepts, refuses}
+use Rattle.table_header.specs.Headers.{header-few}
+use Rattle.table_header.specs.declared.OpeningAnswer.the-variants as opening
 use Rattle.table_file.specs.Entries.{entriesToEnd, numbersFrom, headerAt}
-use Rattle.table_file.specs.HeaderAnswers.{openingOutcome}
-use Rattle.table_file.specs.Words.{accepts, refuses, proper-body}
-use Rattle.table_file.specs.Reading.{body-number, body-table, fileRead, header-few, length-numbers}
-use Rattle.table_file.specs.declared.header.OpeningAnswer.the-variants as opening
+use Rattle.table_file.specs.Words.{proper-body}
+use Rattle.table_file.specs.Reading.{body-number, body-table, fileRead, length-numbers}
 use Rattle.table_show.specs.Text.{Writes, Shows, headedText, linesTo, longestText, TableFits}
 use Rattle.table_show.specs.TextLaws.{writes-length}
 

@@ -20,8 +20,8 @@ use Rattle.definitions.specs.Show.{readShown, shown, textOf}
 use Rattle.theory.specs.Tests.{below-or, and-true-left, and-true-right}
 use Rattle.checks.specs.Words.{no-word}
 use Rattle.number_groups.specs.Numbers.{reads-none, reads-last, reads-more, reads-word, in-front}
-use Rattle.table_file.specs.Words.{passed, passed-test}
-use Rattle.table_file.specs.Reading.{header-few}
+use Rattle.table_header.specs.Words.{passed, passed-test}
+use Rattle.table_header.specs.Headers.{header-few}
 
 differ : _≡_ {A = ℕ} 0 1 → ⊥
 differ e = omega arith

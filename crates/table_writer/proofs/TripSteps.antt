@@ -16,10 +16,11 @@ use Rattle.definitions.specs.Files.{TableFile, fileOf, writerNumber, writtenCou
 use Rattle.theory.specs.Entries.{at-below, below-anywhere}
 use Rattle.checks.specs.Words.{no-word, orElse-go, orElse-stop, orElse-first, orElse-second, refused-list, refused-value}
 use Rattle.checks.specs.Accepted.{tableNumber, table-accepted, table-accepts}
-use Rattle.table_file.specs.HeaderAnswers.{AnswerIs}
-use Rattle.table_file.specs.Words.{accepts, proper-table}
-use Rattle.table_file.specs.declared.header.HeaderAnswer.{HeaderAnswer}
-use Rattle.table_file.specs.declared.header.HeaderAnswer.the-variants.{Header, Refused}
+use Rattle.table_header.specs.HeaderAnswers.{AnswerIs}
+use Rattle.table_header.specs.Words.{accepts}
+use Rattle.table_file.specs.Words.{proper-table}
+use Rattle.table_header.specs.declared.HeaderAnswer.{HeaderAnswer}
+use Rattle.table_header.specs.declared.HeaderAnswer.the-variants.{Header, Refused}
 use Rattle.table_writer.specs.RoundTrip.{Writable, file-read, round-trip}
 use Rattle.table_writer.specs.Trips.{thereNumber, againNumber, WrittenThenRead, ReadThenWritten}
 use Rattle.table_writer.specs.Writing.{shortWord}

@@ -17,9 +17,10 @@ use Rattle.theory.specs.Tests.{and-true-left, and-true-right}
 use Rattle.checks.specs.Words.{no-word}
 use Rattle.checks.specs.Accepted.{in-range}
 use Rattle.number_groups.specs.Numbers.{reads-back, reads-written}
+use Rattle.table_header.specs.Words.{passed, passed-test}
+use Rattle.table_header.specs.Headers.{HeaderRead, header-read}
 use Rattle.table_file.specs.Entries.{belowModulus, readEntry}
-use Rattle.table_file.specs.Words.{passed, passed-test}
-use Rattle.table_file.specs.Reading.{HeaderRead, header-read, entries-more, others}
+use Rattle.table_file.specs.Reading.{entries-more, others}
 
 -- n, m and a table that may be written
 pub record Writable (n m : ℕ) (a : List ℕ) : Type 0 where

@@ -7,8 +7,8 @@ use lib.Dec.{ltb}
 use lib.ListN.{length, drop}
 use Rattle.definitions.specs.Refusals.{wordIf, orElse, tableWord, after, valueAfter}
 use Rattle.definitions.specs.Files.{writerNumber, writtenBuffer, readerNumber, tableRead}
-use Rattle.table_file.specs.HeaderAnswers.{AnswerIs}
-use Rattle.table_file.specs.declared.header.HeaderAnswer.{HeaderAnswer}
+use Rattle.table_header.specs.HeaderAnswers.{AnswerIs}
+use Rattle.table_header.specs.declared.HeaderAnswer.{HeaderAnswer}
 use Rattle.table_writer.specs.declared.writer.Written.{Written}
 
 -- ---- written, then read into a table that held `back`

@@ -1,0 +1,3 @@
+pub mod HeaderAnswers
+pub mod Words
+pub mod Headers
