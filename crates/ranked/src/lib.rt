@@ -5,7 +5,7 @@ ghost use Prim.Native.Nat.{_≤_};
 ghost use Rattle.definitions.specs.Products.{subsetTable};
 ghost use Rattle.residues.specs.Moduli.{Valid};
 ghost use Rattle.sets.specs.Sizes.{ByteSizes};
-ghost use Rattle.ranked_theory.specs.Recursion.{Ready, Worked, LaidLeft, Room, LaidOut, ReadOff, FactorsReady, ProductOfLaid, TablesReady};
+ghost use Rattle.ranked_theory.specs.Recursion.{Ready, Worked, LaidLeft, Room, LaidOut, LaidBoth, ReadOff, FactorsReady, BothReady, ProductOfLaid, ProductOfBoth, TablesReady};
 use ranked_rows::add_lower;
 use ranked_rows::multiply_row;
 use ranked_rows::power_of_two;
@@ -64,6 +64,23 @@ pub fn lay_out_left(n: usize, a: &[u32], rows: &mut [u32])
     lay_out(n, 0, a, rows);
 }
 
+// Lays both factors out in one pass over the rows, whatever they held.
+fn lay_out_both(n: usize, a: &[u32], b: &[u32], rows: &mut [u32])
+    requires { ⌜ Room n (now a) (now rows) ⌝ }
+    requires { ⌜ Room n (now b) (now rows) ⌝ }
+    ensures { λ _. ⌜ LaidBoth n (now (a .entry)) (now (b .entry)) (now (rows .exit)) ⌝ }
+{
+    let w = row_width(n);
+    let mut h = 0;
+    while h < a.len() {
+        let left = h * w;
+        let right = left + 1;
+        rows[left] = a[h];
+        rows[right] = b[h];
+        h += 1;
+    }
+}
+
 // The result: result[h] is rank |h| of row h.
 fn read_off(n: usize, rows: &[u32], result: &mut [u32])
     requires { ⌜ Room n (now result) (now rows) ⌝ }
@@ -78,6 +95,18 @@ fn read_off(n: usize, rows: &[u32], result: &mut [u32])
     }
 }
 
+// The subset product of the two factors, which are laid out in the rows.
+fn multiply_both(n: usize, modulus: Modulus, result: &mut [u32], rows: &mut [u32])
+    requires { ⌜ Valid modulus ⌝ }
+    requires { ⌜ BothReady (modulus .value) n (now result) (now rows) ⌝ }
+    ensures { λ _. ⌜ ProductOfBoth (modulus .value) n (now (rows .entry)) (now (result .exit)) ⌝ }
+{
+    let sizes = sets::byte_sizes();
+    let used = power_of_two(n) * row_width(n);
+    ranked_product(n, modulus, &sizes, n, SetSize(0), &mut rows[..used]);
+    read_off(n, rows, result);
+}
+
 // The subset product of the left factor, which is laid out in the rows, and b.
 pub fn multiply_laid(n: usize, modulus: Modulus, b: &[u32], result: &mut [u32], rows: &mut [u32])
     requires { ⌜ Valid modulus ⌝ }
@@ -85,10 +114,7 @@ pub fn multiply_laid(n: usize, modulus: Modulus, b: &[u32], result: &mut [u32], 
     ensures { λ _. ⌜ ProductOfLaid (modulus .value) n (now (b .entry)) (now (rows .entry)) (now (result .exit)) ⌝ }
 {
     lay_out(n, 1, b, rows);
-    let sizes = sets::byte_sizes();
-    let used = power_of_two(n) * row_width(n);
-    ranked_product(n, modulus, &sizes, n, SetSize(0), &mut rows[..used]);
-    read_off(n, rows, result);
+    multiply_both(n, modulus, result, rows);
 }
 
 // The subset product of a and b.
@@ -104,6 +130,6 @@ pub fn product(
     requires { ⌜ TablesReady (modulus .value) n (now a) (now b) (now result) (now rows) ⌝ }
     ensures { λ _. ⌜ now (result .exit) ≡ subsetTable n (modulus .value) (now (a .entry)) (now (b .entry)) ⌝ }
 {
-    lay_out_left(n, a, rows);
-    multiply_laid(n, modulus, b, result, rows);
+    lay_out_both(n, a, b, rows);
+    multiply_both(n, modulus, result, rows);
 }

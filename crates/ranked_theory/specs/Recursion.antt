@@ -54,6 +54,11 @@ pub record LaidOut (n side : ℕ) (A xs ys : List ℕ) : Type 0 where
   pub laid : Laid n side A ys
   pub other : (h r : ℕ) → h < 2 ^ n → r < width n → (r ≡ side → ⊥) → at ys (h * width n + r) ≡ at xs (h * width n + r)
 
+-- both factors laid out, whatever the rows held
+pub record LaidBoth (n : ℕ) (A B ys : List ℕ) : Type 0 where
+  pub left : Laid n 0 A ys
+  pub right : Laid n 1 B ys
+
 -- result[h] is rank |h| of row h
 abbrev pub ReadOff : ℕ → List ℕ → List ℕ → Type 0
 ReadOff n xs r = (h : ℕ) → h < 2 ^ n → at r h ≡ at xs (h * width n + 2 * n)
@@ -66,6 +71,17 @@ pub record FactorsReady (m n : ℕ) (b r xs : List ℕ) : Type 0 where
   pub result : length r ≡ 2 ^ n
   pub long : 2 ^ n * width n ≤ length xs
   pub left-below : (h : ℕ) → h < 2 ^ n → at xs (h * width n + 0) < m
+
+-- two factors of residues are laid out
+pub record BothReady (m n : ℕ) (r xs : List ℕ) : Type 0 where
+  pub few : n ≤ 16
+  pub result : length r ≡ 2 ^ n
+  pub long : 2 ^ n * width n ≤ length xs
+  pub below : (h side : ℕ) → h < 2 ^ n → side ≤ 1 → at xs (h * width n + side) < m
+
+-- whatever tables they are, r is their product
+abbrev pub ProductOfBoth : ℕ → ℕ → List ℕ → List ℕ → Type 0
+ProductOfBoth m n xs r = (A B : List ℕ) → LaidBoth n A B xs → r ≡ subsetTable n m A B
 
 -- whatever table the left factor is, r is the product
 abbrev pub ProductOfLaid : ℕ → ℕ → List ℕ → List ℕ → List ℕ → Type 0

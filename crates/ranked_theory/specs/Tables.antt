@@ -1,10 +1,10 @@
 -- Tables in rows: laying a factor out, and reading the product off.
---   Laying, Reading          the invariants of the two loops
+--   Laying, LayingBoth, Reading  the invariants of the loops
 --   root-ready, root-product     what the recursion takes and leaves at the root
 use mathlib.Core.Path.{_≡_, refl, sym, ap, subst, _∙_}
 use mathlib.Core.List.{List, _++_}
 use mathlib.Core.Logic.{⊎-elim}
-use Prim.Native.Nat.{ℕ, _+_, _-_, _*_, _%_, _^_, _≤_, _<_}
+use Prim.Native.Nat.{ℕ, zero, suc, _+_, _-_, _*_, _%_, _^_, _≤_, _<_}
 use native.Mathlib.Nat.{mod-eq-of-lt, not-suc-le-zero}
 use native.Mathlib.Omega.{arith}
 use lib.ListN.{length, take, drop, set, length-set, List·getD-append}
@@ -16,7 +16,7 @@ use Rattle.theory.specs.Tests.{below-or}
 use Rattle.theory.specs.Lists.{residues-of}
 use Rattle.ranked_theory.specs.Cover.{cover}
 use Rattle.ranked_theory.specs.Lowest.{ranked, ranked-on, ranked-ranks, cover-ranked}
-use Rattle.ranked_theory.specs.Recursion.{width, Ready, Factor, Worked, LaidLeft, LaidOut, ReadOff, FactorsReady, ProductOfLaid, TablesReady}
+use Rattle.ranked_theory.specs.Recursion.{width, Ready, Factor, Worked, Laid, LaidOut, LaidBoth, ReadOff, FactorsReady, BothReady, ProductOfLaid, ProductOfBoth, TablesReady}
 use Rattle.ranked_theory.specs.Places.{row-in, at-next}
 
 -- a row of a table's rows, of width w, in a list of len numbers
@@ -80,6 +80,55 @@ laying-more {n} {side} {A} {xs} {ys} {H} h one l room w x ew ex =
 pub laying-all : {n side : ℕ} {A xs ys : List ℕ} {H : ℕ} → Laying n side A xs ys H → 2 ^ n ≤ H → LaidOut n side A xs ys
 laying-all h l = record { laid = λ g lg. h .laid g (omega arith); other = λ g r lg lr no. h .other g r lr (λ lt. no) }
 
+-- ---- laying both out
+
+pub record LayingBoth (n : ℕ) (A B xs ys : List ℕ) (H : ℕ) : Type 0 where
+  pub turn : H ≤ 2 ^ n
+  pub long : length ys ≡ length xs
+  pub left : (h : ℕ) → h < H → at ys (h * width n + 0) ≡ at A h
+  pub right : (h : ℕ) → h < H → at ys (h * width n + 1) ≡ at B h
+
+pub laying-both-none : (n : ℕ) (A B xs : List ℕ) → LayingBoth n A B xs xs 0
+laying-both-none n A B xs =
+    record { turn = omega arith; long = refl; left = λ h l. absurd (not-suc-le-zero l); right = λ h l. absurd (not-suc-le-zero l) }
+
+module _ {n : ℕ} {A B xs ys : List ℕ} {H : ℕ} (h : LayingBoth n A B xs ys H) (l : H < 2 ^ n) (room : 2 ^ n * width n ≤ length xs) (x y : ℕ) (ex : x ≡ at A H) (ey : y ≡ at B H) where
+  abbrev v : ℕ
+  v = width n
+
+  abbrev once : List ℕ
+  once = set ys (H * v) x
+
+  lay-both : LayingBoth n A B xs (set once (H * v + 1) y) (H + 1)
+  lay-both =
+      let b = row-in H (2 ^ n) v l in
+      let n₁ = length-set ys (H * v) x in
+      let n₂ = length-set once (H * v + 1) y in
+      let e : H * v + 0 ≡ H * v = omega arith in
+      record {
+        turn = omega arith;
+        long = n₂ ∙ n₁ ∙ h .long;
+        left = λ g lg.
+            at-next (λ k. at (set once (H * v + 1) y) (k * v + 0) ≡ at A k) H g lg
+            (λ lt.
+            let d = row-in g H v lt in
+            getD-set-other once (H * v + 1) (g * v + 0) y 0 (λ q. omega arith) ∙ getD-set-other ys (H * v) (g * v + 0) x 0 (λ q. omega arith) ∙ h .left g lt)
+            (getD-set-other once (H * v + 1) (H * v + 0) y 0 (λ q. omega arith)
+            ∙ ap (at once) e ∙ getD-set-same ys (H * v) x 0 (omega (arith, h .long)) ∙ ex);
+        right = λ g lg.
+            at-next (λ k. at (set once (H * v + 1) y) (k * v + 1) ≡ at B k) H g lg
+            (λ lt.
+            let d = row-in g H v lt in
+            getD-set-other once (H * v + 1) (g * v + 1) y 0 (λ q. omega arith) ∙ getD-set-other ys (H * v) (g * v + 1) x 0 (λ q. omega arith) ∙ h .right g lt)
+            (getD-set-same once (H * v + 1) y 0 (omega (arith, h .long, n₁)) ∙ ey);
+      }
+
+  pub laying-both-more : (w : ℕ) → w ≡ width n → LayingBoth n A B xs (set (set ys (H * w) x) (H * w + 1) y) (H + 1)
+  laying-both-more w ew = subst (λ (u : ℕ). LayingBoth n A B xs (set (set ys (H * u) x) (H * u + 1) y) (H + 1)) (sym ew) lay-both
+
+pub laying-both-all : {n : ℕ} {A B xs ys : List ℕ} {H : ℕ} → LayingBoth n A B xs ys H → 2 ^ n ≤ H → LaidBoth n A B ys
+laying-both-all h l = record { left = λ g lg. h .left g (omega arith); right = λ g lg. h .right g (omega arith) }
+
 -- ---- reading off
 
 pub record Reading (n : ℕ) (xs r₀ r : List ℕ) (H : ℕ) : Type 0 where
@@ -107,78 +156,81 @@ reading-all h l g lg = h .done g (omega arith)
 
 -- ---- the root
 
-module _ (m n : ℕ) (b r xs : List ℕ) (ready : FactorsReady m n b r xs) (ys : List ℕ) (out : LaidOut n 1 b xs ys) (same : length ys ≡ length xs)
-    (used : ℕ) (all : used ≡ 2 ^ n * width n) where
-  at-part : (u k : ℕ) → u < 2 ^ n → k < width n → at (take used ys) (u * width n + k) ≡ at ys (u * width n + k)
-  at-part u k lu lk = let c = row-in u (2 ^ n) (width n) lu in getD-take used ys (u * width n + k) 0 (omega arith)
+module _ (m n : ℕ) (r xs : List ℕ) (ready : BothReady m n r xs) (used : ℕ) (all : used ≡ 2 ^ n * width n) where
+  at-part : (u k : ℕ) → u < 2 ^ n → k < width n → at (take used xs) (u * width n + k) ≡ at xs (u * width n + k)
+  at-part u k lu lk = let c = row-in u (2 ^ n) (width n) lu in getD-take used xs (u * width n + k) 0 (omega arith)
 
-  left-kept : (u : ℕ) → u < 2 ^ n → at (take used ys) (u * width n + 0) ≡ at xs (u * width n + 0)
-  left-kept u lu = at-part u 0 lu (omega arith) ∙ out .other u 0 lu (omega arith) (λ e. omega arith)
+  pub part-fits : used ≤ length xs
+  part-fits = omega (arith, ready .long)
 
-  right-laid : (u : ℕ) → u < 2 ^ n → at (take used ys) (u * width n + 1) ≡ at b u
-  right-laid u lu = at-part u 1 lu (omega arith) ∙ out .laid u lu
+  pub part-long : length (take used xs) ≡ used
+  part-long = length-take-le used xs part-fits
 
-  pub part-fits : used ≤ length ys
-  part-fits = omega (arith, same, ready .long)
-
-  pub part-long : length (take used ys) ≡ used
-  part-long = length-take-le used ys part-fits
-
-  pub root-ready : Ready m n n 0 (take used ys)
+  pub root-ready : Ready m n n 0 (take used xs)
   root-ready =
       record {
         few = ready .few;
         room = omega arith;
         long = part-long ∙ all;
-        filled = λ u r lu h.
-            ⊎-elim
-            (λ (l : r < 1).
-            let e : 0 ≡ r = omega arith in
-            subst (λ (t : ℕ). at (take used ys) (u * width n + t) < m) e (subst (λ (x : ℕ). x < m) (sym (left-kept u lu)) (ready .left-below u lu)))
-            (λ (g : 1 ≤ r).
-            let e : 1 ≡ r = omega arith in
-            subst (λ (t : ℕ). at (take used ys) (u * width n + t) < m) e (subst (λ (x : ℕ). x < m) (sym (right-laid u lu)) (ready .right-below u lu)))
-            (below-or r 1);
+        filled = λ u k lu h. subst (λ (x : ℕ). x < m) (sym (at-part u k lu (omega arith))) (ready .below u k lu (omega arith));
       }
 
-  ranked-residue : (A : List ℕ) (u k : ℕ) → at A u < m → size u ≡ k → at A u ≡ ranked (at A) u k % m
-  ranked-residue A u k l e = sym (ap (λ (x : ℕ). x % m) (ranked-on (at A) u k e) ∙ mod-eq-of-lt l)
+  root-factor : (side : ℕ) → side ≤ 1 → (A : List ℕ) → Laid n side A xs → Factor m n side n 0 (take used xs) (ranked (at A))
+  root-factor side one A h u k lu lo hi =
+      let e : side ≡ 2 * (size u + 0 - k) + side = omega arith in
+      let l : at A u < m = subst (λ (x : ℕ). x < m) (h u lu) (ready .below u side lu one) in
+      subst (λ (t : ℕ). at (take used xs) (u * width n + t) ≡ ranked (at A) u k % m) e
+      (at-part u side lu (omega arith) ∙ h u lu ∙ sym (ap (λ (x : ℕ). x % m) (ranked-on (at A) u k (omega arith)) ∙ mod-eq-of-lt l))
 
-  right-factor : Factor m n 1 n 0 (take used ys) (ranked (at b))
-  right-factor u k lu lo hi =
-      let e : 1 ≡ 2 * (size u + 0 - k) + 1 = omega arith in
-      subst (λ (t : ℕ). at (take used ys) (u * width n + t) ≡ ranked (at b) u k % m) e
-      (right-laid u lu ∙ ranked-residue b u k (ready .right-below u lu) (omega arith))
-
-  left-factor : (A : List ℕ) → LaidLeft n A xs → Factor m n 0 n 0 (take used ys) (ranked (at A))
-  left-factor A h u k lu lo hi =
-      let e : 0 ≡ 2 * (size u + 0 - k) + 0 = omega arith in
-      subst (λ (t : ℕ). at (take used ys) (u * width n + t) ≡ ranked (at A) u k % m) e
-      (left-kept u lu ∙ h u lu ∙ ranked-residue A u k (subst (λ (x : ℕ). x < m) (h u lu) (ready .left-below u lu)) (omega arith))
-
-  pub root-product : (l : List ℕ) → Worked m n n 0 (take used ys) l → length l ≡ length (take used ys) → (s : List ℕ) → length s ≡ 2 ^ n
-      → ReadOff n (l ++ drop used ys) s → ProductOfLaid m n b xs s
-  root-product l worked l-long s s-long read A h =
-      residues-of n m s (subsetSum n (at A) (at b)) s-long
+  pub root-product : (l : List ℕ) → Worked m n n 0 (take used xs) l → length l ≡ length (take used xs) → (s : List ℕ) → length s ≡ 2 ^ n
+      → ReadOff n (l ++ drop used xs) s → ProductOfBoth m n xs s
+  root-product l worked l-long s s-long read A B h =
+      residues-of n m s (subsetSum n (at A) (at B)) s-long
       (λ u lu.
       let c = row-in u (2 ^ n) (width n) lu in
       let e = part-long in
       let k : size u + 0 + 0 ≡ size u = omega arith in
       let z : 2 * n ≡ 2 * n - 0 = omega arith in
-      read u lu ∙ List·getD-append l (drop used ys) 0 (u * width n + 2 * n) (omega arith) ∙ ap (λ (i : ℕ). at l (u * width n + i)) z
-      ∙ worked .product (ranked (at A)) (ranked (at b)) (ranked-ranks n (at A)) (ranked-ranks n (at b)) (left-factor A h) right-factor u 0 lu
-      (omega arith) (omega arith)
-      ∙ ap (λ (x : ℕ). cover n (ranked (at A)) (ranked (at b)) u x % m) k
-      ∙ ap (λ (x : ℕ). x % m) (cover-ranked n (at A) (at b) u lu))
+      read u lu ∙ List·getD-append l (drop used xs) 0 (u * width n + 2 * n) (omega arith) ∙ ap (λ (i : ℕ). at l (u * width n + i)) z
+      ∙ worked .product (ranked (at A)) (ranked (at B)) (ranked-ranks n (at A)) (ranked-ranks n (at B)) (root-factor 0 (omega arith) A (h .left))
+      (root-factor 1 (omega arith) B (h .right)) u 0 lu (omega arith) (omega arith)
+      ∙ ap (λ (x : ℕ). cover n (ranked (at A)) (ranked (at B)) u x % m) k
+      ∙ ap (λ (x : ℕ). x % m) (cover-ranked n (at A) (at B) u lu))
 
--- a table laid out as the left factor
-pub factors-ready : (m n : ℕ) (a b r xs ys : List ℕ) → TablesReady m n a b r xs → LaidLeft n a ys → length ys ≡ length xs → FactorsReady m n b r ys
-factors-ready m n a b r xs ys ready laid same =
+either : (P : ℕ → Type 0) → P 0 → P 1 → (side : ℕ) → side ≤ 1 → P side
+either P a b zero l = a
+either P a b (suc zero) l = b
+either P a b (suc (suc side)) l = let no : ⊥ = omega arith in absurd no
+
+-- ---- one factor laid out beside the other
+
+module _ (m n : ℕ) (b r xs : List ℕ) (ready : FactorsReady m n b r xs) (ys : List ℕ) (out : LaidOut n 1 b xs ys) (same : length ys ≡ length xs) where
+  left-kept : (u : ℕ) → u < 2 ^ n → at ys (u * width n + 0) ≡ at xs (u * width n + 0)
+  left-kept u lu = out .other u 0 lu (omega arith) (λ e. omega arith)
+
+  pub beside-ready : BothReady m n r ys
+  beside-ready =
+      record {
+        few = ready .few;
+        result = ready .result;
+        long = omega (arith, ready .long, same);
+        below = λ h side lh one.
+            either (λ t. at ys (h * width n + t) < m) (subst (λ (x : ℕ). x < m) (sym (left-kept h lh)) (ready .left-below h lh))
+            (subst (λ (x : ℕ). x < m) (sym (out .laid h lh)) (ready .right-below h lh)) side one;
+      }
+
+  pub beside-product : (s : List ℕ) → ProductOfBoth m n ys s → ProductOfLaid m n b xs s
+  beside-product s h A laid = h A b (record { left = λ u lu. left-kept u lu ∙ laid u lu; right = out .laid })
+
+-- ---- both laid out at once
+
+pub both-ready : (m n : ℕ) (a b r xs ys : List ℕ) → TablesReady m n a b r xs → LaidBoth n a b ys → length ys ≡ length xs → BothReady m n r ys
+both-ready m n a b r xs ys ready laid same =
     record {
       few = ready .few;
-      right = ready .right;
-      right-below = ready .right-below;
       result = ready .result;
       long = omega (arith, ready .long, same);
-      left-below = λ h lh. subst (λ (x : ℕ). x < m) (sym (laid h lh)) (ready .left-below h lh);
+      below = λ h side lh one.
+          either (λ t. at ys (h * width n + t) < m) (subst (λ (x : ℕ). x < m) (sym (laid .left h lh)) (ready .left-below h lh))
+          (subst (λ (x : ℕ). x < m) (sym (laid .right h lh)) (ready .right-below h lh)) side one;
     }
