@@ -4,7 +4,7 @@
 --   leaf-row, leaf                one entry
 use mathlib.Core.Path.{_≡_, sym, ap, ap₂, subst, subst₂, _∙_}
 use mathlib.Core.List.{List, _++_}
-use mathlib.Core.Logic.{inl, inr, ⊎-elim}
+use mathlib.Core.Logic.{⊎-elim}
 use Prim.Native.Nat.{ℕ, suc, _+_, _-_, _*_, _%_, _^_, _≤_, _<_, min}
 use native.Mathlib.Nat.{add-zero, zero-add, zero-mul, one-mul, mod-lt, mod-mod, add-mod, add-assoc, add-comm, add-mul}
 use native.Mathlib.Omega.{arith}
@@ -16,7 +16,7 @@ use Rattle.definitions.specs.Sets.{size}
 use Rattle.theory.specs.Tests.{below-or}
 use Rattle.theory.specs.Sums.{sum-mod}
 use Rattle.theory.specs.Remainders.{mod-mul, mod-sub}
-use Rattle.theory.specs.Codes.{by-top, size-top, size-le}
+use Rattle.theory.specs.Codes.{by-top, size-top}
 use Rattle.ranked_theory.specs.Convolution.{conv, conv-window}
 use Rattle.ranked_theory.specs.Cover.{cover, both, cover-low, cover-both, cover-upto, no-control, Ranks, ranks-low, ranks-both}
 use Rattle.ranked_theory.specs.Rows.{plus, minus, Added, Subtracted, RowsStep, RowsReady, backFrom, backCount, RowOfResidues, Multiplied}

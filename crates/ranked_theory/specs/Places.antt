@@ -1,13 +1,13 @@
 -- Lists that a loop changes place by place, one value a turn.
---   Placed      placed-none, placed-more: one place more
---   Filling     the invariant of a loop that places values; filling-none, filling-more
+--   placed-none, placed-more     one place more
+--   placed-as                    the same values, told otherwise
 use mathlib.Core.Path.{_≡_, refl, subst, _∙_}
 use mathlib.Core.List.{List}
 use mathlib.Core.Logic.{inl, inr, ⊎-elim}
 use Prim.Native.Nat.{ℕ, _+_, _*_, _≤_, _<_}
-use native.Mathlib.Nat.{suc-mul, mul-le-mul-right, le-antisymm}
+use native.Mathlib.Nat.{suc-mul, mul-le-mul-right}
 use native.Mathlib.Omega.{arith}
-use lib.ListN.{length, set, length-set}
+use lib.ListN.{length, set}
 use lib.Seq.{getD-set-same, getD-set-other}
 use Rattle.definitions.specs.Sums.{at}
 use Rattle.theory.specs.Tests.{below-or}
@@ -38,27 +38,6 @@ placed-more {v} {base} {i} {xs} {ys} h x l e =
           getD-set-other ys (base + i) j x 0 (λ q. ⊎-elim (λ a. omega arith) (λ a. omega arith) o)
           ∙ h .outside j (⊎-elim (λ a. inl a) (λ a. inr (omega arith)) o);
     }
-
--- the invariant of a loop that places v base, .., one value a turn
-pub record Filling (v : ℕ → ℕ) (base count : ℕ) (xs ys : List ℕ) (i : ℕ) : Type 0 where
-  pub turn : i ≤ count
-  pub long : length ys ≡ length xs
-  pub done : Placed v base i xs ys
-
-pub filling-none : (v : ℕ → ℕ) (base count : ℕ) (xs : List ℕ) → Filling v base count xs xs 0
-filling-none v base count xs = record { turn = omega arith; long = refl; done = placed-none v base xs }
-
-pub filling-more : {v : ℕ → ℕ} {base count i : ℕ} {xs ys : List ℕ} → Filling v base count xs ys i → i < count
-    → base + count ≤ length xs → (x : ℕ) → x ≡ v i → Filling v base count xs (set ys (base + i) x) (i + 1)
-filling-more {base = base} {i = i} {ys = ys} h l room x e =
-    record {
-      turn = omega arith;
-      long = length-set ys (base + i) x ∙ h .long;
-      done = placed-more (h .done) x (omega (arith, h .long)) e;
-    }
-
-pub filling-all : {v : ℕ → ℕ} {base count i : ℕ} {xs ys : List ℕ} → Filling v base count xs ys i → count ≤ i → Placed v base count xs ys
-filling-all {v} {base} {count} {i} {xs} {ys} h l = subst (λ (c : ℕ). Placed v base c xs ys) (le-antisymm (h .turn) l) (h .done)
 
 pub placed-as : {v v' : ℕ → ℕ} {base count count' : ℕ} {xs ys : List ℕ} → Placed v base count xs ys → count ≡ count'
     → ((i : ℕ) → i < count → v i ≡ v' i) → Placed v' base count' xs ys
