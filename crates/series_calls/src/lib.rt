@@ -1,4 +1,4 @@
-// The public calls on set power series: exponential, composition with a row, inverse, logarithm. Each makes 01's tests, works
+// The public calls of logarithm and inverse, and, passed on, exponential and composition with a row. Each makes 01's tests, works
 // in the part of the pad that it may use, and clears that part once, at the end.
 pub mod inverses;
 pub mod logarithms;
