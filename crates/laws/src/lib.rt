@@ -1,6 +1,6 @@
 // Demand 3: thirteen calls under one n and m, and what holds of their outcomes whatever the lent memory held.
 ghost use mathlib.Core.List.{[]};
-ghost use Rattle.laws_theory.specs.Demand.{Inputs, Demand3};
+ghost use Rattle.laws_theory.specs.Demand.{Laws};
 
 // The number that each call returned.
 pub struct Numbers {
@@ -19,8 +19,8 @@ pub struct Numbers {
     pub comp_product: u32,
 }
 
-// Makes the calls. Each has a result of its own and, where it takes one, a pad of its own, of any length and contents. Its
-// inputs are the lent tables and rows, or what an earlier call returned.
+// Makes the calls. Each has a result of its own and, where it takes one, a pad of its own, of any length and contents. It
+// reads the lent tables and rows, or what stands in the result of an earlier call.
 pub fn laws(
     n: u32,
     m: u32,
@@ -54,22 +54,21 @@ pub fn laws(
     comp_g_pad: &mut [u32],
     comp_product_pad: &mut [u32],
 ) -> Numbers
-    ensures { λ k. ⌜ (Inputs n m (now (a .entry)) (now (b .entry)) (now (e .entry)) (now (f .entry)) (now (g .entry))
-        → Demand3 n m (now (a .entry)) (now (b .entry)) (now (e .entry)) (now (f .entry)) (now (g .entry)) (record {
-          sum = record { lent = now (sum .entry); pad = []; number = k .sum; result = now (sum .exit) };
-          exp-sum = record { lent = now («exp_sum» .entry); pad = now («exp_sum_pad» .entry); number = k .«exp_sum»; result = now («exp_sum» .exit) };
-          exp-A = record { lent = now («exp_a» .entry); pad = now («exp_a_pad» .entry); number = k .«exp_a»; result = now («exp_a» .exit) };
-          exp-B = record { lent = now («exp_b» .entry); pad = now («exp_b_pad» .entry); number = k .«exp_b»; result = now («exp_b» .exit) };
-          product = record { lent = now (product .entry); pad = now («product_pad» .entry); number = k .product; result = now (product .exit) };
-          log-exp = record { lent = now («log_exp» .entry); pad = now («log_exp_pad» .entry); number = k .«log_exp»; result = now («log_exp» .exit) };
-          log-E = record { lent = now («log_e» .entry); pad = now («log_e_pad» .entry); number = k .«log_e»; result = now («log_e» .exit) };
-          exp-log = record { lent = now («exp_log» .entry); pad = now («exp_log_pad» .entry); number = k .«exp_log»; result = now («exp_log» .exit) };
-          binomial = record { lent = now (binomial .entry); pad = []; number = k .binomial; result = now (binomial .exit) };
-          comp-binomial = record { lent = now («comp_binomial» .entry); pad = now («comp_binomial_pad» .entry); number = k .«comp_binomial»; result = now («comp_binomial» .exit) };
-          comp-f = record { lent = now («comp_f» .entry); pad = now («comp_f_pad» .entry); number = k .«comp_f»; result = now («comp_f» .exit) };
-          comp-g = record { lent = now («comp_g» .entry); pad = now («comp_g_pad» .entry); number = k .«comp_g»; result = now («comp_g» .exit) };
-          comp-product = record { lent = now («comp_product» .entry); pad = now («comp_product_pad» .entry); number = k .«comp_product»; result = now («comp_product» .exit) };
-        })) ⌝ }
+    ensures { λ k. ⌜ Laws n m (now (a .entry)) (now (b .entry)) (now (e .entry)) (now (f .entry)) (now (g .entry)) (record {
+      sum = record { lent = now (sum .entry); pad = []; number = k .sum; result = now (sum .exit); pad-left = [] };
+      exp-sum = record { lent = now («exp_sum» .entry); pad = now («exp_sum_pad» .entry); number = k .«exp_sum»; result = now («exp_sum» .exit); pad-left = now («exp_sum_pad» .exit) };
+      exp-A = record { lent = now («exp_a» .entry); pad = now («exp_a_pad» .entry); number = k .«exp_a»; result = now («exp_a» .exit); pad-left = now («exp_a_pad» .exit) };
+      exp-B = record { lent = now («exp_b» .entry); pad = now («exp_b_pad» .entry); number = k .«exp_b»; result = now («exp_b» .exit); pad-left = now («exp_b_pad» .exit) };
+      product = record { lent = now (product .entry); pad = now («product_pad» .entry); number = k .product; result = now (product .exit); pad-left = now («product_pad» .exit) };
+      log-exp = record { lent = now («log_exp» .entry); pad = now («log_exp_pad» .entry); number = k .«log_exp»; result = now («log_exp» .exit); pad-left = now («log_exp_pad» .exit) };
+      log-E = record { lent = now («log_e» .entry); pad = now («log_e_pad» .entry); number = k .«log_e»; result = now («log_e» .exit); pad-left = now («log_e_pad» .exit) };
+      exp-log = record { lent = now («exp_log» .entry); pad = now («exp_log_pad» .entry); number = k .«exp_log»; result = now («exp_log» .exit); pad-left = now («exp_log_pad» .exit) };
+      binomial = record { lent = now (binomial .entry); pad = []; number = k .binomial; result = now (binomial .exit); pad-left = [] };
+      comp-binomial = record { lent = now («comp_binomial» .entry); pad = now («comp_binomial_pad» .entry); number = k .«comp_binomial»; result = now («comp_binomial» .exit); pad-left = now («comp_binomial_pad» .exit) };
+      comp-f = record { lent = now («comp_f» .entry); pad = now («comp_f_pad» .entry); number = k .«comp_f»; result = now («comp_f» .exit); pad-left = now («comp_f_pad» .exit) };
+      comp-g = record { lent = now («comp_g» .entry); pad = now («comp_g_pad» .entry); number = k .«comp_g»; result = now («comp_g» .exit); pad-left = now («comp_g_pad» .exit) };
+      comp-product = record { lent = now («comp_product» .entry); pad = now («comp_product_pad» .entry); number = k .«comp_product»; result = now («comp_product» .exit); pad-left = now («comp_product_pad» .exit) };
+    }) ⌝ }
 {
     let sum_number = entrywise::sum(n, m, a, b, sum);
     let exp_sum_number = series_calls::exponential(n, m, sum, exp_sum, exp_sum_pad);

@@ -1,32 +1,16 @@
--- Demand 3, as one statement about thirteen calls under one n and m: what they were lent, what they returned and what they
--- left. Every input of a call is as it was given, or as an earlier call returned it.
+-- Demand 3, as one statement about thirteen calls under one n and m, in this order: the calls, what each promises, the demand.
 use mathlib.Core.Path.{_≡_}
-use mathlib.Core.List.{List, [], _∷_}
+use mathlib.Core.List.{List}
 use Prim.Native.Nat.{ℕ}
 use lib.ListN.{length}
 use Rattle.definitions.specs.Sums.{at}
-use Rattle.definitions.specs.Refusals.{firstWord, tableWord, rowWord, padWord, AcceptedTable, AcceptedRow}
+use Rattle.definitions.specs.Refusals.{tableWord, rowWord, AcceptedTable, AcceptedRow}
+use Rattle.laws_theory.specs.Calls.{Call, Done, lentWord, Sum, Binomial, Product, Exponential, Logarithm, Composition}
 
--- accepted tables A and B with first entry 0 and E with first entry 1, and accepted rows f and g
-pub record Inputs (n m : ℕ) (A B E f g : List ℕ) : Type 0 where
-  pub table-A : AcceptedTable n m A
-  pub first-A : at A 0 ≡ 0
-  pub table-B : AcceptedTable n m B
-  pub first-B : at B 0 ≡ 0
-  pub table-E : AcceptedTable n m E
-  pub first-E : at E 0 ≡ 1
-  pub row-f : AcceptedRow n m f
-  pub row-g : AcceptedRow n m g
+-- ---- the calls
 
--- one call: the result and the pad that it was lent as they were (no pad: []), the number that it returned, and what its
--- result then held
-pub record Call : Type 0 where
-  pub lent : List ℕ
-  pub pad : List ℕ
-  pub number : ℕ
-  pub result : List ℕ
-
--- the calls, each with what it reads
+-- Each reads what is named beside it: as it was given, or as it stands in an earlier call's result, which is what that call
+-- returned if it was accepted, and else what it was lent.
 pub record Calls : Type 0 where
   pub sum : Call  -- A + B
   pub exp-sum : Call  -- the exponential of `sum`
@@ -42,13 +26,36 @@ pub record Calls : Type 0 where
   pub comp-g : Call
   pub comp-product : Call  -- the subset product of `comp-f` and `comp-g`
 
--- the number that the lent lengths alone give a call with a pad: 3, then 4
-abbrev pub lentWord : ℕ → Call → ℕ
-lentWord n c = firstWord (tableWord n (length (c .lent)) ∷ padWord n (length (c .pad)) ∷ [])
+-- ---- what each promises
 
--- the call was accepted
-abbrev pub Done : Call → Type 0
-Done c = c .number ≡ 0
+-- the thirteen calls, each on what it reads
+pub record Run (n m : ℕ) (A B E f g : List ℕ) (c : Calls) : Type 0 where
+  pub sum : Sum n m A B (c .sum)
+  pub exp-sum : Exponential n m (c .sum .result) (c .exp-sum)
+  pub exp-A : Exponential n m A (c .exp-A)
+  pub exp-B : Exponential n m B (c .exp-B)
+  pub product : Product n m (c .exp-A .result) (c .exp-B .result) (c .product)
+  pub log-exp : Logarithm n m (c .exp-A .result) (c .log-exp)
+  pub log-E : Logarithm n m E (c .log-E)
+  pub exp-log : Exponential n m (c .log-E .result) (c .exp-log)
+  pub binomial : Binomial n m f g (c .binomial)
+  pub comp-binomial : Composition n m A (c .binomial .result) (c .comp-binomial)
+  pub comp-f : Composition n m A f (c .comp-f)
+  pub comp-g : Composition n m A g (c .comp-g)
+  pub comp-product : Product n m (c .comp-f .result) (c .comp-g .result) (c .comp-product)
+
+-- ---- the demand
+
+-- accepted tables A and B with first entry 0 and E with first entry 1, and accepted rows f and g
+pub record Inputs (n m : ℕ) (A B E f g : List ℕ) : Type 0 where
+  pub table-A : AcceptedTable n m A
+  pub first-A : at A 0 ≡ 0
+  pub table-B : AcceptedTable n m B
+  pub first-B : at B 0 ≡ 0
+  pub table-E : AcceptedTable n m E
+  pub first-E : at E 0 ≡ 1
+  pub row-f : AcceptedRow n m f
+  pub row-g : AcceptedRow n m g
 
 pub record Demand3 (n m : ℕ) (A B E f g : List ℕ) (c : Calls) : Type 0 where
   -- No call is refused for an entry or a first entry: its number is that of the lent lengths, provided the calls that it
@@ -76,3 +83,8 @@ pub record Demand3 (n m : ℕ) (A B E f g : List ℕ) (c : Calls) : Type 0 where
   -- Composing A with the binomial product of f and g gives the subset product of two compositions, of A with f and with g.
   pub composition-of-product : Done (c .binomial) → Done (c .comp-binomial) → Done (c .comp-f) → Done (c .comp-g) → Done (c .comp-product)
       → c .comp-binomial .result ≡ c .comp-product .result
+
+-- what the function that makes the calls promises: each call's own promise, whatever it was given and lent, and the demand
+pub record Laws (n m : ℕ) (A B E f g : List ℕ) (c : Calls) : Type 0 where
+  pub run : Run n m A B E f g c
+  pub demand : Inputs n m A B E f g → Demand3 n m A B E f g c

@@ -2,59 +2,39 @@
 use mathlib.Core.Path.{_≡_, refl, sym, ap, ap₂, _∙_}
 use mathlib.Core.List.{List}
 use Prim.Native.Nat.{ℕ}
-use lib.ListN.{length}
 use Rattle.definitions.specs.Sums.{at}
-use Rattle.definitions.specs.Products.{residues, sumTable, subsetTable}
-use Rattle.definitions.specs.Rows.{binomialRow}
-use Rattle.definitions.specs.Partitions.{compositionTable, exponentialTable, IsLogarithm}
-use Rattle.definitions.specs.Refusals.{sumNumber, binomialNumber, productNumber, exponentialNumber, logarithmNumber, compositionNumber, after}
+use Rattle.definitions.specs.Products.{residues, subsetTable}
+use Rattle.definitions.specs.Partitions.{compositionTable, exponentialTable}
+use Rattle.definitions.specs.Refusals.{after, padAfter}
 use Rattle.theory.specs.Logarithm.{logarithm-unique}
 use Rattle.theory.specs.Entries.{at-below}
 use Rattle.theory.specs.Tables.{exponential-of-sum, composition-of-product, exponential-first, sum-first}
-use Rattle.laws_theory.specs.Demand.{Inputs, Call, Calls, Done, Demand3}
+use Rattle.checks.specs.Words.{refused-list}
 use Rattle.checks.specs.Accepted.{InRange, IsTable, IsRow, table-accepted, row-accepted}
+use Rattle.laws_theory.specs.Calls.{Call, Done, Made, MadeInPad}
+use Rattle.laws_theory.specs.Demand.{Calls, Run, Inputs, Demand3, Laws}
 use Rattle.laws_theory.specs.Accepting.{sum-number, binomial-number, product-number, exponential-number, logarithm-number, composition-number, residues-table, binomial-row, logarithm-table}
 
--- what a call promises: its number, and what its result is if that is 0
-pub record Made (number : ℕ) (Right : List ℕ → Type 0) (c : Call) : Type 0 where
-  pub says : c .number ≡ number
-  pub holds : number ≡ 0 → Right (c .result)
+-- ---- a call's promises, from its contract
 
 module _ {number : ℕ} (c : Call) (says : c .number ≡ number) where
-  -- a call that says what its result is when it returns 0
-  pub made-with : {Right : List ℕ → Type 0} → (c .number ≡ 0 → Right (c .result)) → Made number Right c
-  made-with right = record { says = says; holds = λ z. right (says ∙ z) }
+  -- the logarithm's contract says which table its result is, and what is known of it
+  made-with : {Right : List ℕ → Type 0} (table : List ℕ) → c .result ≡ after (c .number) table (c .lent) → (Done c → Right (c .result))
+      → Made number Right c
+  made-with table e right = record { says = says; holds = right; kept = λ no. e ∙ sym (refused-list (c .number) table (c .lent) no) }
 
-  -- a call whose result is equated with a table
   pub made : {table : List ℕ} → c .result ≡ after (c .number) table (c .lent) → Made number (λ r. r ≡ table) c
-  made {table} e = made-with (λ z. e ∙ ap (λ (k : ℕ). after k table (c .lent)) z)
+  made {table} e = made-with table e (λ z. e ∙ ap (λ (k : ℕ). after k table (c .lent)) z)
 
-module _ {number : ℕ} {Right : List ℕ → Type 0} {c : Call} (made : Made number Right c) where
-  -- what is in the result of a call that returned 0
-  got : Done c → Right (c .result)
-  got z = made .holds (sym (made .says) ∙ z)
+  pub made-in-pad-with : {n : ℕ} {Right : List ℕ → Type 0} (table : List ℕ) → c .result ≡ after (c .number) table (c .lent)
+      → (Done c → Right (c .result)) → c .pad-left ≡ padAfter (c .number) n (c .pad) → MadeInPad n number Right c
+  made-in-pad-with table e right p = record { made = made-with table e right; clears = p }
 
--- the thirteen calls, each on what it reads
-pub record Run (n m : ℕ) (A B E f g : List ℕ) (c : Calls) : Type 0 where
-  pub sum : Made (sumNumber n m A B (length (c .sum .lent))) (λ r. r ≡ sumTable n m A B) (c .sum)
-  pub exp-sum : Made (exponentialNumber n m (c .sum .result) (length (c .exp-sum .lent)) (length (c .exp-sum .pad)))
-      (λ r. r ≡ exponentialTable n m (c .sum .result)) (c .exp-sum)
-  pub exp-A : Made (exponentialNumber n m A (length (c .exp-A .lent)) (length (c .exp-A .pad))) (λ r. r ≡ exponentialTable n m A) (c .exp-A)
-  pub exp-B : Made (exponentialNumber n m B (length (c .exp-B .lent)) (length (c .exp-B .pad))) (λ r. r ≡ exponentialTable n m B) (c .exp-B)
-  pub product : Made (productNumber n m (c .exp-A .result) (c .exp-B .result) (length (c .product .lent)) (length (c .product .pad)))
-      (λ r. r ≡ subsetTable n m (c .exp-A .result) (c .exp-B .result)) (c .product)
-  pub log-exp : Made (logarithmNumber n m (c .exp-A .result) (length (c .log-exp .lent)) (length (c .log-exp .pad)))
-      (IsLogarithm n m (c .exp-A .result)) (c .log-exp)
-  pub log-E : Made (logarithmNumber n m E (length (c .log-E .lent)) (length (c .log-E .pad))) (IsLogarithm n m E) (c .log-E)
-  pub exp-log : Made (exponentialNumber n m (c .log-E .result) (length (c .exp-log .lent)) (length (c .exp-log .pad)))
-      (λ r. r ≡ exponentialTable n m (c .log-E .result)) (c .exp-log)
-  pub binomial : Made (binomialNumber n m f g (length (c .binomial .lent))) (λ r. r ≡ binomialRow n m f g) (c .binomial)
-  pub comp-binomial : Made (compositionNumber n m A (c .binomial .result) (length (c .comp-binomial .lent)) (length (c .comp-binomial .pad)))
-      (λ r. r ≡ compositionTable n m (c .binomial .result) A) (c .comp-binomial)
-  pub comp-f : Made (compositionNumber n m A f (length (c .comp-f .lent)) (length (c .comp-f .pad))) (λ r. r ≡ compositionTable n m f A) (c .comp-f)
-  pub comp-g : Made (compositionNumber n m A g (length (c .comp-g .lent)) (length (c .comp-g .pad))) (λ r. r ≡ compositionTable n m g A) (c .comp-g)
-  pub comp-product : Made (productNumber n m (c .comp-f .result) (c .comp-g .result) (length (c .comp-product .lent)) (length (c .comp-product .pad)))
-      (λ r. r ≡ subsetTable n m (c .comp-f .result) (c .comp-g .result)) (c .comp-product)
+  pub made-in-pad : {n : ℕ} {table : List ℕ} → c .result ≡ after (c .number) table (c .lent)
+      → c .pad-left ≡ padAfter (c .number) n (c .pad) → MadeInPad n number (λ r. r ≡ table) c
+  made-in-pad e p = record { made = made e; clears = p }
+
+-- ---- the demand, from the promises
 
 module _ (n m : ℕ) (A B E f g : List ℕ) (i : Inputs n m A B E f g) (c : Calls) (run : Run n m A B E f g c) where
   range : InRange n m
@@ -83,31 +63,34 @@ module _ (n m : ℕ) (A B E f g : List ℕ) (i : Inputs n m A B E f g) (c : Call
   demand3 = record {
     sum-number = run .sum .says ∙ sum-number range a b _;
     exp-sum-number = λ s.
-        run .exp-sum .says
-        ∙ exponential-number range (accepted _ (got (run .sum) s)) _ _ (ap (λ (t : List ℕ). at t 0) (got (run .sum) s) ∙ sum-first n m A B (i .first-A) (i .first-B));
-    exp-A-number = run .exp-A .says ∙ exponential-number range a _ _ (i .first-A);
-    exp-B-number = run .exp-B .says ∙ exponential-number range b _ _ (i .first-B);
-    product-number = λ x y. run .product .says ∙ product-number range (accepted _ (got (run .exp-A) x)) (accepted _ (got (run .exp-B) y)) _ _;
+        run .exp-sum .made .says
+        ∙ exponential-number range (accepted _ (run .sum .holds s)) _ _ (ap (λ (t : List ℕ). at t 0) (run .sum .holds s) ∙ sum-first n m A B (i .first-A) (i .first-B));
+    exp-A-number = run .exp-A .made .says ∙ exponential-number range a _ _ (i .first-A);
+    exp-B-number = run .exp-B .made .says ∙ exponential-number range b _ _ (i .first-B);
+    product-number = λ x y. run .product .made .says ∙ product-number range (accepted _ (run .exp-A .made .holds x)) (accepted _ (run .exp-B .made .holds y)) _ _;
     log-exp-number = λ x.
-        run .log-exp .says
-        ∙ logarithm-number range (accepted _ (got (run .exp-A) x)) _ _ (ap (λ (t : List ℕ). at t 0) (got (run .exp-A) x) ∙ exponential-first n m (range .lowest) A);
-    log-E-number = run .log-E .says ∙ logarithm-number range e _ _ (i .first-E);
-    exp-log-number = λ x. run .exp-log .says ∙ exponential-number range (logarithm-table range (got (run .log-E) x)) _ _ (got (run .log-E) x .first);
+        run .log-exp .made .says
+        ∙ logarithm-number range (accepted _ (run .exp-A .made .holds x)) _ _ (ap (λ (t : List ℕ). at t 0) (run .exp-A .made .holds x) ∙ exponential-first n m (range .lowest) A);
+    log-E-number = run .log-E .made .says ∙ logarithm-number range e _ _ (i .first-E);
+    exp-log-number = λ x. run .exp-log .made .says ∙ exponential-number range (logarithm-table range (run .log-E .made .holds x)) _ _ (run .log-E .made .holds x .first);
     binomial-number = run .binomial .says ∙ binomial-number range row-f row-g _;
     comp-binomial-number = λ x.
-        run .comp-binomial .says
-        ∙ composition-number range a _ _ (rw (got (run .binomial) x) (binomial-row range f g)) (i .first-A);
-    comp-f-number = run .comp-f .says ∙ composition-number range a _ _ row-f (i .first-A);
-    comp-g-number = run .comp-g .says ∙ composition-number range a _ _ row-g (i .first-A);
-    comp-product-number = λ x y. run .comp-product .says ∙ product-number range (accepted _ (got (run .comp-f) x)) (accepted _ (got (run .comp-g) y)) _ _;
+        run .comp-binomial .made .says
+        ∙ composition-number range a _ _ (rw (run .binomial .holds x) (binomial-row range f g)) (i .first-A);
+    comp-f-number = run .comp-f .made .says ∙ composition-number range a _ _ row-f (i .first-A);
+    comp-g-number = run .comp-g .made .says ∙ composition-number range a _ _ row-g (i .first-A);
+    comp-product-number = λ x y. run .comp-product .made .says ∙ product-number range (accepted _ (run .comp-f .made .holds x)) (accepted _ (run .comp-g .made .holds y)) _ _;
     exponential-of-sum = λ s es x y p.
-        got (run .exp-sum) es ∙ ap (exponentialTable n m) (got (run .sum) s) ∙ exponential-of-sum n m A B
-        ∙ sym (got (run .product) p ∙ ap₂ (subsetTable n m) (got (run .exp-A) x) (got (run .exp-B) y));
+        run .exp-sum .made .holds es ∙ ap (exponentialTable n m) (run .sum .holds s) ∙ exponential-of-sum n m A B
+        ∙ sym (run .product .made .holds p ∙ ap₂ (subsetTable n m) (run .exp-A .made .holds x) (run .exp-B .made .holds y));
     logarithm-of-exponential = λ x y.
-        logarithm-unique n m (exponentialTable n m A) _ A (rw (got (run .exp-A) x) at (got (run .log-exp) y))
+        logarithm-unique n m (exponentialTable n m A) _ A (rw (run .exp-A .made .holds x) at (run .log-exp .made .holds y))
         (record { long = a .size; below = at-below m A (λ k h. a .below k); first = i .first-A; exponential = refl });
-    exponential-of-logarithm = λ x y. got (run .exp-log) y ∙ got (run .log-E) x .exponential;
+    exponential-of-logarithm = λ x y. run .exp-log .made .holds y ∙ run .log-E .made .holds x .exponential;
     composition-of-product = λ h k x y p.
-        got (run .comp-binomial) k ∙ ap (λ (t : List ℕ). compositionTable n m t A) (got (run .binomial) h) ∙ composition-of-product n m f g A
-        ∙ sym (got (run .comp-product) p ∙ ap₂ (subsetTable n m) (got (run .comp-f) x) (got (run .comp-g) y));
+        run .comp-binomial .made .holds k ∙ ap (λ (t : List ℕ). compositionTable n m t A) (run .binomial .holds h) ∙ composition-of-product n m f g A
+        ∙ sym (run .comp-product .made .holds p ∙ ap₂ (subsetTable n m) (run .comp-f .made .holds x) (run .comp-g .made .holds y));
   }
+
+pub laws-hold : (n m : ℕ) (A B E f g : List ℕ) (c : Calls) → Run n m A B E f g c → Laws n m A B E f g c
+laws-hold n m A B E f g c run = record { run = run; demand = λ i. demand3 n m A B E f g i c run }

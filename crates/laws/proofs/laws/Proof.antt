@@ -1,9 +1,9 @@
-use Rattle.laws_theory.specs.Theorem.{made, made-with, demand3}
+use Rattle.laws_theory.specs.Theorem.{made, made-in-pad, made-in-pad-with, laws-hold}
 use borrow.Author.Needs.{needs}
 use Rattle.laws.proofs.laws.Statement.{statement}
 use Rattle.laws.proofs.laws.Tie as tie
 
--- the calls, from the last to the first, and the start
+-- the calls, from the last to the first
 abbrev at-subset-product2 : tie.After-slice-known48 → tie.After-subset-product2
 at-subset-product2 c = c .before .before .before .before
 
@@ -42,9 +42,6 @@ at-exponential c = at-exponential2 c .before .before .before .before .before .be
 
 abbrev at-sum : tie.After-slice-known48 → tie.After-sum
 at-sum c = at-exponential c .before .before .before .before .before .before
-
-abbrev at-start : tie.After-slice-known48 → tie.Start
-at-start c = at-sum c .before .before .before .before .before .before .before .before .before .before .before .before .before .before .before .before .before .before .before .before .before .before .before .before .before .before .before .before .before .before .before
 
 sum-requires : tie.Need-sum-requires
 sum-requires c κs = tt
@@ -158,20 +155,20 @@ same-length-24 : tie.Need-same-length-24
 same-length-24 c = at-subset-product2 c .subset-product2 .kept .1 .1 .1 .1 .1 .0
 
 returns : tie.Need-returns
-returns c = λ i. demand3 _ _ _ _ _ _ _ i _ (record {
+returns c = laws-hold _ _ _ _ _ _ _ _ (record {
   sum = made _ (at-sum c .sum .ensures .0) (at-sum c .sum .ensures .1);
-  exp-sum = made _ (at-exponential c .exponential .ensures .0) (at-exponential c .exponential .ensures .1 .0);
-  exp-A = made _ (at-exponential2 c .exponential2 .ensures .0) (at-exponential2 c .exponential2 .ensures .1 .0);
-  exp-B = made _ (at-exponential3 c .exponential3 .ensures .0) (at-exponential3 c .exponential3 .ensures .1 .0);
-  product = made _ (at-subset-product c .subset-product .ensures .0) (at-subset-product c .subset-product .ensures .1 .1 .0);
-  log-exp = made-with _ (at-logarithm c .logarithm .ensures .0) (at-logarithm c .logarithm .ensures .1 .1 .0);
-  log-E = made-with _ (at-logarithm2 c .logarithm2 .ensures .0) (at-logarithm2 c .logarithm2 .ensures .1 .1 .0);
-  exp-log = made _ (at-exponential4 c .exponential4 .ensures .0) (at-exponential4 c .exponential4 .ensures .1 .0);
+  exp-sum = made-in-pad _ (at-exponential c .exponential .ensures .0) (at-exponential c .exponential .ensures .1 .0) (at-exponential c .exponential .ensures .1 .1);
+  exp-A = made-in-pad _ (at-exponential2 c .exponential2 .ensures .0) (at-exponential2 c .exponential2 .ensures .1 .0) (at-exponential2 c .exponential2 .ensures .1 .1);
+  exp-B = made-in-pad _ (at-exponential3 c .exponential3 .ensures .0) (at-exponential3 c .exponential3 .ensures .1 .0) (at-exponential3 c .exponential3 .ensures .1 .1);
+  product = made-in-pad _ (at-subset-product c .subset-product .ensures .0) (at-subset-product c .subset-product .ensures .1 .1 .0) (at-subset-product c .subset-product .ensures .1 .1 .1);
+  log-exp = made-in-pad-with _ (at-logarithm c .logarithm .ensures .0) _ (at-logarithm c .logarithm .ensures .1 .0) (at-logarithm c .logarithm .ensures .1 .1 .0) (at-logarithm c .logarithm .ensures .1 .1 .1);
+  log-E = made-in-pad-with _ (at-logarithm2 c .logarithm2 .ensures .0) _ (at-logarithm2 c .logarithm2 .ensures .1 .0) (at-logarithm2 c .logarithm2 .ensures .1 .1 .0) (at-logarithm2 c .logarithm2 .ensures .1 .1 .1);
+  exp-log = made-in-pad _ (at-exponential4 c .exponential4 .ensures .0) (at-exponential4 c .exponential4 .ensures .1 .0) (at-exponential4 c .exponential4 .ensures .1 .1);
   binomial = made _ (at-binomial-product c .binomial-product .ensures .0) (at-binomial-product c .binomial-product .ensures .1);
-  comp-binomial = made _ (at-composition c .composition .ensures .0) (at-composition c .composition .ensures .1 .0);
-  comp-f = made _ (at-composition2 c .composition2 .ensures .0) (at-composition2 c .composition2 .ensures .1 .0);
-  comp-g = made _ (at-composition3 c .composition3 .ensures .0) (at-composition3 c .composition3 .ensures .1 .0);
-  comp-product = made _ (at-subset-product2 c .subset-product2 .ensures .0) (at-subset-product2 c .subset-product2 .ensures .1 .1 .0);
+  comp-binomial = made-in-pad _ (at-composition c .composition .ensures .0) (at-composition c .composition .ensures .1 .0) (at-composition c .composition .ensures .1 .1);
+  comp-f = made-in-pad _ (at-composition2 c .composition2 .ensures .0) (at-composition2 c .composition2 .ensures .1 .0) (at-composition2 c .composition2 .ensures .1 .1);
+  comp-g = made-in-pad _ (at-composition3 c .composition3 .ensures .0) (at-composition3 c .composition3 .ensures .1 .0) (at-composition3 c .composition3 .ensures .1 .1);
+  comp-product = made-in-pad _ (at-subset-product2 c .subset-product2 .ensures .0) (at-subset-product2 c .subset-product2 .ensures .1 .1 .0) (at-subset-product2 c .subset-product2 .ensures .1 .1 .1);
 })
 
 pub laws-spec : {M : Type 1} → statement M
