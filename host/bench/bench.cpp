@@ -10,6 +10,8 @@
 #include <type_traits>
 #include <vector>
 
+#include <unistd.h>
+
 #include "plain.h"
 #include "sps.h"
 
@@ -177,16 +179,23 @@ Times measure(const Bench &bench, Data &d) {
     return {median(library), median(plain)};
 }
 
+// How far the measuring is, on the terminal only.
+void tell(std::size_t done, std::size_t total) {
+    if (isatty(STDERR_FILENO)) std::fprintf(stderr, "\rmeasuring %zu of %zu%s", done, total, done == total ? "\n" : "");
+}
+
 }  // namespace
 
 int main() {
     std::vector<Bench> all = benches();
+    std::size_t done = 0, total = all.size() * std::size(MODULI) * std::size(PANELS);
     std::vector<std::map<u32, std::map<u32, Times>>> measured(all.size());  // by modulus, then panel
     for (u32 m : MODULI) {
         for (u32 n : PANELS) {
             Data d(n, m);
             for (std::size_t i = 0; i < all.size(); i++) {
                 if (m % 2 == 1 || !all[i].odd_only) measured[i][m][n] = measure(all[i], d);
+                tell(++done, total);
             }
         }
     }
