@@ -10,7 +10,7 @@
 use mathlib.Core.Path.{_≡_, refl, sym, ap, ap₂, _∙_}
 use mathlib.Core.List.{List, _++_}
 use Prim.Native.Nat.{ℕ, suc, _+_, _%_, _^_, _<_, _≤_, _-_}
-use native.Mathlib.Nat.{mod-mod, mod-eq-of-lt, zero-mod, mod-add-mod, add-mod-right}
+use native.Mathlib.Nat.{mod-mod, mod-eq-of-lt, zero-mod}
 use native.Mathlib.Omega.{arith}
 use lib.ListN.{length, take, drop}
 use lib.Pow.{pow-pos}
@@ -20,7 +20,7 @@ use Rattle.definitions.specs.Products.{residues, sumTable, differenceTable, sub
 use Rattle.definitions.specs.Rows.{binomialSum, binomialRow}
 use Rattle.definitions.specs.Partitions.{compositionSum, compositionTable, exponentialTable, allOnes, unit}
 use Rattle.theory.specs.Lists.{at-tabulate, at-residues, residues-ext, residues-self, residues-halves}
-use Rattle.theory.specs.Remainders.{mod-add}
+use Rattle.theory.specs.Remainders.{mod-add, mod-back}
 use Rattle.theory.specs.Halves.{Row, shift}
 use Rattle.theory.specs.Composition.{composition-empty, composition-lo, composition-hi}
 use Rattle.theory.specs.Series.{subset-comm, subset-assoc, subset-plus, subset-unit, exponential-plus, composition-binomial, subset-mod, composition-mod}
@@ -64,9 +64,7 @@ module _ (n m : ℕ) where
       → sumTable n m (differenceTable n m A B) B ≡ A
   sum-of-difference A B l a b =
       residues-ext n m _ (at A) (λ S h.
-      let back : at A S + (m - at B S) + at B S ≡ at A S + m = omega (arith, b S h) in
-      ap (λ (k : ℕ). (k + at B S) % m) (at-residues n m _ S h) ∙ mod-add-mod (at A S + (m - at B S)) m (at B S)
-      ∙ ap (λ (k : ℕ). k % m) back ∙ add-mod-right (at A S) m)
+      ap (λ (k : ℕ). (k + at B S) % m) (at-residues n m _ S h) ∙ mod-back m (at A S) (at B S) (omega (arith, b S h)))
       ∙ residues-self n m A l a
 
   pub exponential-of-sum : (A B : List ℕ) → exponentialTable n m (sumTable n m A B) ≡ subsetTable n m (exponentialTable n m A) (exponentialTable n m B)
