@@ -13,7 +13,8 @@ use Rattle.definitions.specs.Sums.{at}
 use Rattle.definitions.specs.Partitions.{allBelow}
 use Rattle.definitions.specs.Refusals.{wordIf, orElse, firstWord, panelWord, modulusWord, tableWord, rowWord, padWord, entryWord, startWord, AcceptedTable, AcceptedRow, sumNumber, binomialNumber, productNumber, singleNumber, exponentialNumber, logarithmNumber, compositionNumber}
 use Rattle.theory.specs.Entries.{below-anywhere, at-below}
-use Rattle.checks.specs.Words.{orElse-first, orElse-second, no-word, all-zero, _and_, AllZero}
+use Rattle.residues.specs.Moduli.{valid-modulus}
+use Rattle.checks.specs.Words.{no-word, all-zero, _and_, AllZero}
 
 -- ---- one test
 
@@ -42,8 +43,8 @@ pub in-range : {n m : ℕ} → panelWord n ≡ 0 → modulusWord m ≡ 0 → InR
 in-range {n} {m} p q =
     record {
       few = ltb-false _ _ (no-word (ltb mostControls n) 1 (λ z. omega arith) p);
-      lowest = ltb-false _ _ (no-word (ltb m lowestModulus) 2 (λ z. omega arith) (orElse-first _ _ q));
-      largest = ltb-false _ _ (no-word (ltb largestModulus m) 2 (λ z. omega arith) (orElse-second (wordIf (ltb m lowestModulus) 2) _ q));
+      lowest = valid-modulus m q .lowest;
+      largest = valid-modulus m q .largest;
     }
 
 module _ {n m : ℕ} (h : InRange n m) where
