@@ -1,14 +1,12 @@
 -- How the checks make their answers: the tests of the panel and of the modulus, the list of words behind them, and a test
 -- that comes after the others.
 use mathlib.Core.Path.{_≡_, refl, sym, _∙_, ap, ap₂}
-use mathlib.Core.Bool.{Bool, true, false, _||_}
 use mathlib.Core.List.{List, [], _∷_}
 use Prim.Native.Nat.{ℕ, zero, suc, _^_, _<_, _≤_}
-use native.Mathlib.Omega.{arith}
-use lib.Dec.{ltb}
+use native.Mathlib.Nat.{suc-ne-zero}
 use borrow.Author.Tests.{lt-ltb, le-ltb}
-use Rattle.definitions.specs.Limits.{mostControls, lowestModulus, largestModulus}
-use Rattle.definitions.specs.Refusals.{wordIf, orElse, firstWord, panelWord, modulusWord, tableWord}
+use Rattle.definitions.specs.Limits.{mostControls}
+use Rattle.definitions.specs.Refusals.{orElse, firstWord, panelWord, modulusWord, tableWord}
 use Rattle.residues.specs.Moduli.{MadeFrom, RefusedFor}
 use Rattle.residues.specs.declared.Modulus.{Modulus}
 use Rattle.checks.specs.Accepted.{lengthWord}
@@ -17,11 +15,8 @@ use Rattle.checks.specs.declared.Checked.{Checked}
 use Rattle.checks.specs.declared.Checked.the-variants.{Accepted, Refused}
 
 -- the panel's test, before the others
-one-not-zero : _≡_ {A = ℕ} 1 0 → ⊥
-one-not-zero e = omega arith
-
 pub panel-refused : {n m : ℕ} (k : ℕ) → mostControls < n → IsChecked m (orElse (panelWord n) k) (Refused 1)
-panel-refused {n} k h = is-refused (simp (lt-ltb mostControls n h)) one-not-zero
+panel-refused {n} k h = is-refused (simp (lt-ltb mostControls n h)) (suc-ne-zero 0)
 
 pub past-panel : (n : ℕ) {m k : ℕ} {r : Checked} → n ≤ mostControls → IsChecked m k r → IsChecked m (orElse (panelWord n) k) r
 past-panel n h x = same-number (simp (le-ltb mostControls n h)) x
@@ -58,20 +53,8 @@ pub also-stop : {o : Checked} (w : ℕ) {modulus : Modulus} → o ≡ Accepted m
 also-stop w {modulus} e h = also-word modulus w h ∙ sym (ap (λ (x : Checked). alsoTested x w) e)
 
 -- the test of the modulus
-either : (s t : Bool) → orElse (wordIf s 2) (wordIf t 2) ≡ wordIf (s || t) 2
-either true t = refl
-either false t = refl
-
-two-not-zero : {w : ℕ} → w ≡ 2 → w ≡ 0 → ⊥
-two-not-zero e z = omega arith
-
 pub modulus-stands : {m : ℕ} {modulus : Modulus} → MadeFrom m modulus → IsChecked m (modulusWord m) (Accepted modulus)
-modulus-stands {m} h =
-    is-accepted (either (ltb m lowestModulus) (ltb largestModulus m) ∙ ap (λ (t : Bool). wordIf t 2) (h .accepted))
-    (record { valid = h .valid; value-is = h .value-is })
+modulus-stands h = is-accepted (h .accepted) (record { valid = h .valid; value-is = h .value-is })
 
 pub modulus-refused : {m w : ℕ} → RefusedFor m w → IsChecked m (modulusWord m) (Refused w)
-modulus-refused {m} h =
-    is-refused
-    (h .number-is ∙ sym (either (ltb m lowestModulus) (ltb largestModulus m) ∙ ap (λ (t : Bool). wordIf t 2) (h .refused)))
-    (two-not-zero (h .number-is))
+modulus-refused h = is-refused (h .number-is) (h .not-zero)

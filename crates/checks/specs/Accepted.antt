@@ -10,10 +10,13 @@ use lib.ListN.{length}
 use borrow.Author.Tests.{eqb-true, eq-eqb, not-false, ltb-false, le-ltb}
 use Rattle.definitions.specs.Limits.{mostControls, lowestModulus, largestModulus, padLength}
 use Rattle.definitions.specs.Sums.{at}
-use Rattle.definitions.specs.Partitions.{allBelow}
+use Rattle.definitions.specs.Partitions.{allBelow, allOnes}
 use Rattle.definitions.specs.Refusals.{wordIf, orElse, firstWord, panelWord, modulusWord, tableWord, rowWord, padWord, entryWord, startWord, AcceptedTable, AcceptedRow, sumNumber, binomialNumber, productNumber, singleNumber, exponentialNumber, logarithmNumber, compositionNumber}
+use Rattle.theory.specs.Lists.{length-tabulate, at-tabulate}
 use Rattle.theory.specs.Entries.{below-anywhere, at-below}
-use Rattle.checks.specs.Words.{orElse-first, orElse-second, no-word, all-zero, _and_, AllZero}
+use Rattle.theory.specs.Tables.{onesRow}
+use Rattle.residues.specs.Moduli.{valid-modulus}
+use Rattle.checks.specs.Words.{no-word, all-zero, _and_, AllZero}
 
 -- ---- one test
 
@@ -42,8 +45,8 @@ pub in-range : {n m : ℕ} → panelWord n ≡ 0 → modulusWord m ≡ 0 → InR
 in-range {n} {m} p q =
     record {
       few = ltb-false _ _ (no-word (ltb mostControls n) 1 (λ z. omega arith) p);
-      lowest = ltb-false _ _ (no-word (ltb m lowestModulus) 2 (λ z. omega arith) (orElse-first _ _ q));
-      largest = ltb-false _ _ (no-word (ltb largestModulus m) 2 (λ z. omega arith) (orElse-second (wordIf (ltb m lowestModulus) 2) _ q));
+      lowest = valid-modulus m q .lowest;
+      largest = valid-modulus m q .largest;
     }
 
 module _ {n m : ℕ} (h : InRange n m) where
@@ -264,3 +267,13 @@ module _ (n m : ℕ) (a : List ℕ) where
 
   pub row-accepted : AcceptedRow n m a → InRange n m × IsRow n m a
   row-accepted e = list-accepted n m (n + 1) a e
+
+-- the row of ones: every modulus is above 1
+pub ones-accepted : {n m : ℕ} → InRange n m → AcceptedRow n m (onesRow n)
+unfolding onesRow
+ones-accepted {n} {m} r = list-accepts n m (n + 1) (onesRow n) r (record { size = long; below = below-anywhere m (onesRow n) (omega (arith, r .lowest)) small }) where
+  long : length (onesRow n) ≡ n + 1
+  long = length-tabulate (n + 1) allOnes
+
+  small : allBelow m (onesRow n) ≡ true
+  small = at-below m (onesRow n) (λ i l. rw (at-tabulate (n + 1) allOnes i (omega (arith, long))) (r .lowest))

@@ -3,8 +3,9 @@
 use mathlib.Core.Path.{_≡_, refl, sym, _∙_, ap, subst}
 use mathlib.Core.List.{List}
 use Prim.Native.Nat.{ℕ, zero, suc}
-use native.Mathlib.Omega.{arith}
+use native.Mathlib.Nat.{suc-ne-zero}
 use Rattle.definitions.specs.Refusals.{orElse, after, valueAfter}
+use Rattle.theory.specs.Tests.{zero-is-not-one}
 use Rattle.residues.specs.Moduli.{Valid}
 use Rattle.residues.specs.declared.Modulus.{Modulus}
 use Rattle.checks.specs.Words.{orElse-stop, orElse-go, refused-list, refused-value}
@@ -26,16 +27,13 @@ pub record IsChecked (m k : ℕ) (r : Checked) : Type 0 where
   pub stands : (modulus : Modulus) → r ≡ Accepted modulus → Stands modulus m
   pub word : (w : ℕ) → r ≡ Refused w → w ≡ 0 → ⊥
 
-differ : _≡_ {A = ℕ} 0 1 → ⊥
-differ e = omega arith
-
 -- ---- making one
 
 pub is-refused : {m k w : ℕ} → w ≡ k → (w ≡ 0 → ⊥) → IsChecked m k (Refused w)
 is-refused {w = w} e h =
     record {
       number-is = e;
-      stands = λ modulus d. absurd (differ (cc));
+      stands = λ modulus d. absurd (zero-is-not-one (cc));
       word = λ v d z. h (let same : w ≡ v = cc in same ∙ z);
     }
 
@@ -44,7 +42,7 @@ is-accepted {m} {modulus = modulus} e h =
     record {
       number-is = sym e;
       stands = λ other d. let same : modulus ≡ other = cc in subst (λ (x : Modulus). Stands x m) same h;
-      word = λ v d z. absurd (differ (cc));
+      word = λ v d z. absurd (zero-is-not-one (cc));
     }
 
 pub same-number : {m j k : ℕ} {r : Checked} → j ≡ k → IsChecked m j r → IsChecked m k r
@@ -59,12 +57,9 @@ alsoTested (Accepted modulus) zero = Accepted modulus
 alsoTested (Accepted modulus) (suc w) = Refused (suc w)
 alsoTested (Refused earlier) w = Refused earlier
 
-suc-not-zero : {w : ℕ} → suc w ≡ 0 → ⊥
-suc-not-zero e = omega arith
-
 pub also-tested : {m k : ℕ} (o : Checked) (w : ℕ) → IsChecked m k o → IsChecked m (orElse k w) (alsoTested o w)
 also-tested (Accepted modulus) zero h = is-accepted (orElse-go _ zero (sym (h .number-is))) (h .stands modulus refl)
-also-tested (Accepted modulus) (suc w) h = is-refused (sym (orElse-go _ (suc w) (sym (h .number-is)))) suc-not-zero
+also-tested (Accepted modulus) (suc w) h = is-refused (sym (orElse-go _ (suc w) (sym (h .number-is)))) (suc-ne-zero w)
 also-tested (Refused earlier) w h =
     let not-zero = h .word earlier refl in
     same-number (sym (orElse-stop _ w (λ z. not-zero (h .number-is ∙ z)))) h

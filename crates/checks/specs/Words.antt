@@ -4,11 +4,8 @@ use mathlib.Core.Path.{_≡_, refl, _∙_, ap}
 use mathlib.Core.Bool.{Bool, true, false}
 use mathlib.Core.List.{List, [], _∷_}
 use Prim.Native.Nat.{ℕ, zero, suc}
-use native.Mathlib.Omega.{arith}
+use native.Mathlib.Nat.{suc-ne-zero}
 use Rattle.definitions.specs.Refusals.{wordIf, orElse, firstWord, after, valueAfter}
-
-suc-not-zero : {j : ℕ} → suc j ≡ 0 → ⊥
-suc-not-zero e = omega arith
 
 -- ---- two words
 
@@ -18,7 +15,7 @@ orElse-first (suc j) k e = e
 
 pub orElse-second : (j k : ℕ) → orElse j k ≡ 0 → k ≡ 0
 orElse-second zero k e = e
-orElse-second (suc j) k e = absurd (suc-not-zero e)
+orElse-second (suc j) k e = absurd (suc-ne-zero j e)
 
 pub orElse-stop : (j k : ℕ) → (j ≡ 0 → ⊥) → orElse j k ≡ j
 orElse-stop zero k h = absurd (h refl)

@@ -14,10 +14,7 @@ use Rattle.definitions.specs.Outcomes.{Outcome, accepted, refused, andThen, unl
 use Rattle.definitions.specs.Refusals.{wordIf}
 use Rattle.definitions.specs.Groups.{Numeral, groups, groupsIn, inFront, readNumber}
 use Rattle.definitions.specs.Partitions.{allBelow}
-use Rattle.theory.specs.Tests.{below-or, and-true-left, and-true-right}
-
-differ : _≡_ {A = ℕ} 0 1 → ⊥
-differ e = omega arith
+use Rattle.theory.specs.Tests.{below-or, and-true-left, and-true-right, zero-is-not-one}
 
 -- ---- writing
 
@@ -38,7 +35,7 @@ unused k v further =
     (below-or v 128)
 
 enough : (k v : ℕ) → v < 128 ^ suc k → groupsIn (suc k) v ≡ groupsIn (suc (suc k)) v
-enough zero v h = unused zero v (λ l. absurd (differ (omega arith)))
+enough zero v h = unused zero v (λ l. absurd (omega arith))
 enough (suc k) v h = unused (suc k) v (λ l. enough k (v / 128) (omega arith))
 
 pub groups-last : (v : ℕ) → v < 128 → groups v ≡ v ∷ []
@@ -81,13 +78,13 @@ word-by g (refused j) w k e = let f : j ≡ k = cc in sym f ∙ w j refl
 word-by g (accepted x) w k e = tested (ltb 0 (x .value) && ltb (g + 128 * x .value) (2 ^ 32)) (record { value = g + 128 * x .value; rest = x .rest }) k e
   where
     tested : (t : Bool) (y : Numeral) (k : ℕ) → unless (wordIf (not t) 8) (accepted y) ≡ refused k → k ≡ 8
-    tested true y k e = absurd (differ (cc))
+    tested true y k e = absurd (zero-is-not-one (cc))
     tested false y k e = cc
 
 pub reads-word : (bs : List ℕ) (k : ℕ) → readNumber bs ≡ refused k → k ≡ 8
 reads-word [] k e = let f = sym reads-none ∙ e in cc
 reads-word (b ∷ bs) k e = ⊎-elim
-    (λ (l : b < 128). let f = sym (reads-last b bs l) ∙ e in absurd (differ (cc)))
+    (λ (l : b < 128). let f = sym (reads-last b bs l) ∙ e in absurd (zero-is-not-one (cc)))
     (λ (l : 128 ≤ b). word-by (b - 128) (readNumber bs) (reads-word bs) k (sym (reads-more b bs l) ∙ e))
     (below-or b 128)
 
@@ -110,7 +107,7 @@ back-by k v rest l further = ⊎-elim
 
 back-in : (k v : ℕ) (rest : List ℕ) → v < 128 ^ suc k → v < 2 ^ 32 →
     readNumber (groupsIn (suc k) v ++ rest) ≡ accepted (record { value = v; rest = rest })
-back-in zero v rest h l = back-by zero v rest l (λ s. absurd (differ (omega arith)))
+back-in zero v rest h l = back-by zero v rest l (λ s. absurd (omega arith))
 back-in (suc k) v rest h l = back-by (suc k) v rest l (λ s. back-in k (v / 128) rest (omega arith) (omega arith))
 
 -- what is written reads back
@@ -126,8 +123,8 @@ longer-form : (b : ℕ) (bs : List ℕ) (y x : Numeral) (some small : Bool) → 
     ltb 0 (y .value) ≡ some → ltb (b - 128 + 128 * y .value) (2 ^ 32) ≡ small →
     unless (wordIf (not (some && small)) 8) (accepted (record { value = b - 128 + 128 * y .value; rest = y .rest })) ≡ accepted x →
     Written (b ∷ bs) x
-longer-form b bs y x false small l h w p q e = absurd (differ (cc))
-longer-form b bs y x true false l h w p q e = absurd (differ (cc))
+longer-form b bs y x false small l h w p q e = absurd (zero-is-not-one (cc))
+longer-form b bs y x true false l h w p q e = absurd (zero-is-not-one (cc))
 longer-form b bs y x true true l h w p q e =
     let v = b - 128 + 128 * y .value in
     let pos : 0 < y .value = ltb-true 0 (y .value) p in
@@ -140,13 +137,13 @@ longer-form b bs y x true true l h w p q e =
 
 written-by : (b : ℕ) (bs : List ℕ) (o : Outcome Numeral) (x : Numeral) → 128 ≤ b → b < 256 →
     ((y : Numeral) → o ≡ accepted y → Written bs y) → andThen o (inFront (b - 128)) ≡ accepted x → Written (b ∷ bs) x
-written-by b bs (refused k) x l h w e = absurd (differ (cc))
+written-by b bs (refused k) x l h w e = absurd (zero-is-not-one (cc))
 written-by b bs (accepted y) x l h w e = longer-form b bs y x _ _ l h (w y refl) refl refl e
 
 -- what reads is what is written
 pub reads-written : (bs : List ℕ) (x : Numeral) → allBelow 256 bs ≡ true → readNumber bs ≡ accepted x → Written bs x
 unfolding allBelow
-reads-written [] x h e = let f = sym reads-none ∙ e in absurd (differ (cc))
+reads-written [] x h e = let f = sym reads-none ∙ e in absurd (zero-is-not-one (cc))
 reads-written (b ∷ bs) x h e = ⊎-elim
     (λ (l : b < 128).
     let same : record { value = b; rest = bs } ≡ x = let f = sym (reads-last b bs l) ∙ e in cc in

@@ -1,4 +1,3 @@
-pub mod Congruence
 pub mod Moduli
 pub mod Accumulated
 pub mod Reciprocals

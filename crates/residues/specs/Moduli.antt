@@ -1,11 +1,13 @@
 -- The modulus: which numbers are taken for one, what is known of one, and what a residue is.
-use mathlib.Core.Path.{_≡_, refl, subst}
-use mathlib.Core.Bool.{Bool, true, false, cond, _||_}
-use Prim.Native.Nat.{ℕ, _*_, _/_, _%_, _^_, _<_, _≤_}
+use mathlib.Core.Path.{_≡_, refl, sym, _∙_, ap, subst}
+use mathlib.Core.Bool.{Bool, true, false}
+use Prim.Native.Nat.{ℕ, zero, suc, _*_, _/_, _%_, _^_, _<_, _≤_}
+use native.Mathlib.Nat.{suc-ne-zero}
 use borrow.Author.Tests.{ltb-false}
 use lib.Dec.{ltb}
 use Rattle.definitions.specs.Limits.{lowestModulus, largestModulus}
-use Rattle.residues.specs.Congruence.{zero-is-not-one}
+use Rattle.definitions.specs.Refusals.{wordIf, orElse, modulusWord}
+use Rattle.theory.specs.Tests.{zero-is-not-one}
 use Rattle.residues.specs.declared.Modulus.{Modulus}
 use Rattle.residues.specs.declared.ModulusAnswer.{ModulusAnswer}
 use Rattle.residues.specs.declared.ModulusAnswer.the-variants as answer
@@ -14,13 +16,17 @@ use Rattle.residues.specs.declared.ModulusAnswer.the-variants as answer
 abbrev pub topOf : ℕ → ℕ
 topOf m = 2 ^ 63 / m * m
 
--- word 2: m below the lowest or above the largest modulus
-abbrev pub modulusRefused : ℕ → Bool
-modulusRefused m = ltb m lowestModulus || ltb largestModulus m
+abbrev pub modulusAt : ℕ → Modulus
+modulusAt m = record { value = m; top = topOf m }
+
+-- the answer for m by 01's number
+abbrev pub answerBy : ℕ → ℕ → ModulusAnswer
+answerBy m zero = answer.Modulus (modulusAt m)
+answerBy m (suc w) = answer.Refused (suc w)
 
 -- what `Modulus::new` answers
 unfoldable pub modulusOf : ℕ → ModulusAnswer
-modulusOf m = cond (modulusRefused m) (answer.Refused 2) (answer.Modulus (record { value = m; top = topOf m }))
+modulusOf m = answerBy m (modulusWord m)
 
 -- 01's number of an answer: 0 if accepted
 abbrev pub numberOf : ModulusAnswer → ℕ
@@ -52,40 +58,47 @@ pub record Back (m a b r : ℕ) : Type 0 where
 pub record MadeFrom (m : ℕ) (k : Modulus) : Type 0 where
   pub valid : Valid k
   pub value-is : k .value ≡ m
-  pub accepted : modulusRefused m ≡ false
+  pub accepted : modulusWord m ≡ 0
 
 -- w is the number of a refusal of m
 pub record RefusedFor (m w : ℕ) : Type 0 where
-  pub number-is : w ≡ 2
-  pub refused : modulusRefused m ≡ true
+  pub number-is : w ≡ modulusWord m
+  pub not-zero : w ≡ 0 → ⊥
+
+-- the number of the answer is 01's
+number-by : (m w : ℕ) → numberOf (answerBy m w) ≡ w
+number-by m zero = refl
+number-by m (suc w) = refl
+
+pub modulus-number : (m : ℕ) → numberOf (modulusOf m) ≡ modulusWord m
+unfolding modulusOf
+modulus-number m = number-by m (modulusWord m)
 
 module _ (m : ℕ) where
-  modulus : Modulus
-  modulus = record { value = m; top = topOf m }
+  valid-by : (low high : Bool) → ltb m lowestModulus ≡ low → ltb largestModulus m ≡ high → orElse (wordIf low 2) (wordIf high 2) ≡ 0 → Valid (modulusAt m)
+  valid-by true high l h z = absurd (suc-ne-zero 1 z)
+  valid-by false true l h z = absurd (suc-ne-zero 1 z)
+  valid-by false false l h z = record { lowest = ltb-false _ _ l; largest = ltb-false _ _ h; top-is = refl }
 
-  made-by : (low high : Bool) → ltb m lowestModulus ≡ low → ltb largestModulus m ≡ high → (k : Modulus) →
-      cond (low || high) (answer.Refused 2) (answer.Modulus modulus) ≡ answer.Modulus k → MadeFrom m k
-  unfolding modulus
-  made-by true high l h k e = absurd (zero-is-not-one (cc))
-  made-by false true l h k e = absurd (zero-is-not-one (cc))
-  made-by false false l h k e =
-      let same : modulus ≡ k = cc in
-      subst (MadeFrom m) same (record {
-        valid = record { lowest = ltb-false _ _ l; largest = ltb-false _ _ h; top-is = refl };
-        value-is = refl;
-        accepted = rw (l, h);
-      })
+  -- a number without a word is a modulus
+  pub valid-modulus : modulusWord m ≡ 0 → Valid (modulusAt m)
+  valid-modulus = valid-by (ltb m lowestModulus) (ltb largestModulus m) refl refl
 
-  refused-by : (out : Bool) → modulusRefused m ≡ out → (w : ℕ) →
-      cond out (answer.Refused 2) (answer.Modulus modulus) ≡ answer.Refused w → RefusedFor m w
-  refused-by true o w e = record { number-is = cc; refused = o }
-  refused-by false o w e = absurd (zero-is-not-one (cc))
+  made-by : (w : ℕ) → modulusWord m ≡ w → (k : Modulus) → answerBy m w ≡ answer.Modulus k → MadeFrom m k
+  made-by zero z k e =
+      let same : modulusAt m ≡ k = cc in
+      subst (MadeFrom m) same (record { valid = valid-modulus z; value-is = refl; accepted = z })
+  made-by (suc w) z k e = absurd (zero-is-not-one (cc))
+
+  refused-by : (n w : ℕ) → answerBy m n ≡ answer.Refused w → w ≡ 0 → ⊥
+  refused-by zero w e z = zero-is-not-one (cc)
+  refused-by (suc n) w e z = suc-ne-zero n (ap numberOf e ∙ z)
 
   -- each modulus that `Modulus::new` answers is valid, and it is m
   pub made : (k : Modulus) → modulusOf m ≡ answer.Modulus k → MadeFrom m k
-  unfolding modulusOf modulus
-  made k e = made-by (ltb m lowestModulus) (ltb largestModulus m) refl refl k e
+  unfolding modulusOf
+  made k e = made-by (modulusWord m) refl k e
 
   pub refused : (w : ℕ) → modulusOf m ≡ answer.Refused w → RefusedFor m w
-  unfolding modulusOf modulus
-  refused w e = refused-by (modulusRefused m) refl w e
+  unfolding modulusOf
+  refused w e = record { number-is = sym (ap numberOf e) ∙ modulus-number m; not-zero = refused-by (modulusWord m) w e }

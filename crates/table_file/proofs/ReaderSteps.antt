@@ -25,9 +25,6 @@ use Rattle.table_header.specs.declared.OpeningAnswer.the-variants as opening
 use Rattle.table_file.specs.Entries.{belowModulus, readEntry, entriesToEnd, placed, numberOrZero, numbersFrom, behindHeader, headerAt}
 use Rattle.table_file.specs.Reading.{ends, goes-on, stops, length-numbers, body-number, fileRead, in-order}
 
-differ : _≡_ {A = ℕ} 0 1 → ⊥
-differ e = omega arith
-
 -- ---- one number
 
 module _ (bytes : List ℕ) (at : ℕ) {r : _} (reads : ReadsAt bytes at r) where
@@ -57,12 +54,12 @@ module _ (bytes : List ℕ) (at : ℕ) {r : _} (reads : ReadsAt bytes at r) wher
 
 module _ (m : ℕ) (bytes : List ℕ) where
   pub turn-stops : (left : ℕ) {w : ℕ} → 0 < left → readEntry m bytes ≡ refused w → numberOf (entriesToEnd left m bytes) ≡ w
-  turn-stops zero h e = absurd (differ (omega arith))
+  turn-stops zero h e = absurd (omega arith)
   turn-stops (suc k) h e = stops k m bytes e
 
   pub turn-goes-on : (left : ℕ) {x : groups.Numeral} → 0 < left → readEntry m bytes ≡ accepted x →
       numberOf (entriesToEnd left m bytes) ≡ numberOf (entriesToEnd (left - 1) m (x .rest))
-  turn-goes-on zero h e = absurd (differ (omega arith))
+  turn-goes-on zero h e = absurd (omega arith)
   turn-goes-on (suc k) {x} h e = goes-on k m bytes e ∙ ap (λ (j : ℕ). numberOf (entriesToEnd j m (x .rest))) (omega arith)
 
 module _ (m : ℕ) (bytes : List ℕ) (place left : ℕ) (none : left ≤ 0) where

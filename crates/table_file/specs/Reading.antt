@@ -7,7 +7,6 @@ use mathlib.Core.Path.{_≡_, refl, sym, _∙_, ap}
 use mathlib.Core.Bool.{Bool, true, false, not}
 use mathlib.Core.List.{List, [], _∷_}
 use Prim.Native.Nat.{ℕ, zero, suc, _^_}
-use native.Mathlib.Omega.{arith}
 use lib.Dec.{ltb, eqb}
 use lib.ListN.{length}
 use borrow.Author.Tests.{eqb-true}
@@ -15,12 +14,10 @@ use Rattle.definitions.specs.Outcomes.{Outcome, accepted, refused, andThen, unl
 use Rattle.definitions.specs.Refusals.{wordIf}
 use Rattle.definitions.specs.Groups as groups
 use Rattle.definitions.specs.Files.{Header, Entries, TableFile, readEntries, entryInFront, tailWord, readBody}
+use Rattle.theory.specs.Tests.{zero-is-not-one}
 use Rattle.table_header.specs.Words.{accepts}
 use Rattle.table_file.specs.Entries.{belowModulus, readEntry, toEnd, entriesToEnd, numberOrZero, numbersFrom, behindHeader}
 use Rattle.table_file.specs.Words.{proper-behind}
-
-differ : _≡_ {A = ℕ} 0 1 → ⊥
-differ e = omega arith
 
 number-unless : {X : Type 0} (w : ℕ) (x : X) → numberOf (unless w (accepted x)) ≡ w
 number-unless zero x = refl
@@ -76,20 +73,20 @@ length-numbers (suc k) bytes = ap suc (length-numbers k (numberOrZero bytes .res
 
 below-by : (m : ℕ) (x y : groups.Numeral) (t : Bool) → unless (wordIf (not t) 5) (accepted x) ≡ accepted y → x ≡ y
 below-by m x y true e = cc
-below-by m x y false e = absurd (differ (cc))
+below-by m x y false e = absurd (zero-is-not-one (cc))
 
 -- an entry is the number that stands there
 entry-is : (m : ℕ) (bytes : List ℕ) (o : Outcome groups.Numeral) (x : groups.Numeral) → groups.readNumber bytes ≡ o → andThen o (belowModulus m) ≡ accepted x →
     numberOrZero bytes ≡ x
 entry-is m bytes (accepted y) x f e = rw f (below-by m y x (ltb (y .value) m) e)
-entry-is m bytes (refused w) x f e = absurd (differ (cc))
+entry-is m bytes (refused w) x f e = absurd (zero-is-not-one (cc))
 
 front-by : (v : ℕ) (vs : List ℕ) (o : Outcome Entries) (x : Entries) → ((y : Entries) → o ≡ accepted y → y .entries ≡ vs) →
     andThen o (entryInFront v) ≡ accepted x → x .entries ≡ v ∷ vs
 front-by v vs (accepted y) x h e =
     let f : record { entries = v ∷ y .entries; rest = y .rest } ≡ x = cc in
     ap (λ (z : Entries). z .entries) (sym f) ∙ ap (λ (l : List ℕ). v ∷ l) (h y refl)
-front-by v vs (refused w) x h e = absurd (differ (cc))
+front-by v vs (refused w) x h e = absurd (zero-is-not-one (cc))
 
 more-are : (k m : ℕ) (bytes : List ℕ) (o : Outcome groups.Numeral) (x : Entries) → readEntry m bytes ≡ o →
     ((rest : List ℕ) (y : Entries) → readEntries k m rest ≡ accepted y → y .entries ≡ numbersFrom k rest) →
@@ -98,7 +95,7 @@ unfolding numbersFrom
 more-are k m bytes (accepted y) x f h e =
     rw (entry-is m bytes (groups.readNumber bytes) y refl f)
     (front-by (y .value) (numbersFrom k (y .rest)) (readEntries k m (y .rest)) x (h (y .rest)) e)
-more-are k m bytes (refused w) x f h e = absurd (differ (cc))
+more-are k m bytes (refused w) x f h e = absurd (zero-is-not-one (cc))
 
 pub entries-are : (k m : ℕ) (bytes : List ℕ) (x : Entries) → readEntries k m bytes ≡ accepted x → x .entries ≡ numbersFrom k bytes
 unfolding readEntries numbersFrom
@@ -126,12 +123,12 @@ body-number h = body-by h (readEntries (2 ^ h .controls) (h .modulus) (h .rest))
 closed-by : (h : Header) (x : Entries) (t : TableFile) (w : ℕ) → x .entries ≡ numbersFrom (2 ^ h .controls) (h .rest) →
     unless w (accepted (record { controls = h .controls; modulus = h .modulus; entries = x .entries })) ≡ accepted t → fileRead h ≡ t
 closed-by h x t zero f e = rw (sym f) (let g : record { controls = h .controls; modulus = h .modulus; entries = x .entries } ≡ t = cc in g)
-closed-by h x t (suc w) f e = absurd (differ (cc))
+closed-by h x t (suc w) f e = absurd (zero-is-not-one (cc))
 
 table-by : (h : Header) (o : Outcome Entries) (t : TableFile) → readEntries (2 ^ h .controls) (h .modulus) (h .rest) ≡ o →
     andThen o (closed h) ≡ accepted t → fileRead h ≡ t
 table-by h (accepted x) t f e = closed-by h x t (tailWord (x .rest)) (entries-are (2 ^ h .controls) (h .modulus) (h .rest) x f) e
-table-by h (refused w) t f e = absurd (differ (cc))
+table-by h (refused w) t f e = absurd (zero-is-not-one (cc))
 
 pub body-table : (h : Header) (t : TableFile) → readBody h ≡ accepted t → fileRead h ≡ t
 body-table h t e = table-by h (readEntries (2 ^ h .controls) (h .modulus) (h .rest)) t refl e
@@ -147,7 +144,7 @@ order-by h long t true f e = record {
   as-long = eqb-true _ _ f;
   outcome = rw f (e ∙ ap accepted (sym (body-table h t e)));
 }
-order-by h long t false f e = absurd (differ (cc))
+order-by h long t false f e = absurd (zero-is-not-one (cc))
 
 pub in-order : (h : Header) (long : ℕ) → numberOf (behindHeader h long) ≡ 0 → InOrder h long
 in-order h long e =

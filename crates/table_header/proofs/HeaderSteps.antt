@@ -1,18 +1,15 @@
 -- The steps of reading a header: n, then m.
 use mathlib.Core.Path.{_≡_, refl, sym, _∙_, ap}
-use mathlib.Core.Bool.{Bool, true, false, cond, _||_}
 use mathlib.Core.List.{List}
-use Prim.Native.Nat.{ℕ, _+_, _*_, _<_, _≤_}
+use Prim.Native.Nat.{ℕ, zero, suc, _+_, _*_, _<_, _≤_}
 use native.Mathlib.Omega.{arith}
-use lib.Dec.{ltb}
 use lib.ListN.{drop}
 use borrow.Author.Tests.{lt-ltb, le-ltb}
-use Rattle.definitions.specs.Limits.{mostControls, lowestModulus, largestModulus}
-use Rattle.definitions.specs.Outcomes.{Outcome, accepted, refused, andThen, numberOf, valueOr}
-use Rattle.definitions.specs.Refusals.{wordIf, orElse, modulusWord}
+use Rattle.definitions.specs.Limits.{mostControls}
+use Rattle.definitions.specs.Outcomes.{Outcome, accepted, refused, andThen, unless, numberOf, valueOr}
 use Rattle.definitions.specs.Groups as groups
 use Rattle.definitions.specs.Files as def
-use Rattle.residues.specs.Moduli.{modulusOf, modulusRefused, made}
+use Rattle.residues.specs.Moduli.{modulusOf, made}
 use Rattle.residues.specs.Moduli.{refused as modulus-refused}
 use Rattle.residues.specs.declared.ModulusAnswer.the-variants as modulus
 use Rattle.number_groups.specs.NumberAnswers.{ReadsAt, outcomeOf}
@@ -35,14 +32,10 @@ few-enough most v h = rw (le-ltb most v h)
 
 -- ---- m
 
--- the word of a modulus, by the modulus type's own test
-word-by : (low high : Bool) → orElse (wordIf low 2) (wordIf high 2) ≡ cond (low || high) 2 0
-word-by true high = refl
-word-by false true = refl
-word-by false false = refl
-
-word-of : (m : ℕ) (t : Bool) → modulusRefused m ≡ t → modulusWord m ≡ cond t 2 0
-word-of m t e = word-by (ltb m lowestModulus) (ltb largestModulus m) ∙ ap (λ (b : Bool). cond b 2 0) e
+-- a word stops the reading
+stopped : {X : Type 0} (w : ℕ) (o : Outcome X) → (w ≡ 0 → ⊥) → refused w ≡ unless w o
+stopped zero o h = absurd (h refl)
+stopped (suc w) o h = refl
 
 module _ (n : ℕ) (bytes : List ℕ) (at : ℕ) {r : _} (reads : ReadsAt bytes at r) where
   -- the answer that was read, and what follows from it
@@ -56,11 +49,11 @@ module _ (n : ℕ) (bytes : List ℕ) (at : ℕ) {r : _} (reads : ReadsAt bytes 
     pub no-modulus : {word : ℕ} → modulusOf (x .value) ≡ modulus.Refused word → refused word ≡ modulusBehind n bytes at
     no-modulus {word} f =
         let w = modulus-refused (x .value) word f in
-        rw (w .number-is) (rw (word-of (x .value) true (w .refused)) at (followed (Number x) e))
+        stopped word _ (w .not-zero) ∙ rw (← w .number-is) at (followed (Number x) e)
 
     pub a-modulus : {k : _} → modulusOf (x .value) ≡ modulus.Modulus k →
         accepted (record { controls = n; modulus = x .value; rest = drop (x .next) bytes }) ≡ modulusBehind n bytes at
-    a-modulus {k} f = rw (word-of (x .value) false (made (x .value) k f .accepted)) at (followed (Number x) e)
+    a-modulus {k} f = rw (made (x .value) k f .accepted) at (followed (Number x) e)
 
 -- ---- n and m
 

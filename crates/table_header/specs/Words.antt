@@ -14,6 +14,7 @@ use Rattle.definitions.specs.Outcomes.{Outcome, accepted, refused, andThen, unl
 use Rattle.definitions.specs.Refusals.{wordIf, orElse, modulusWord}
 use Rattle.definitions.specs.Groups.{readNumber}
 use Rattle.definitions.specs.Files.{controlsOf, readHeader}
+use Rattle.theory.specs.Tests.{zero-is-not-one}
 use Rattle.number_groups.specs.Numbers.{reads-word}
 
 pub record IsWord (k : ℕ) : Type 0 where
@@ -24,13 +25,10 @@ pub record IsWord (k : ℕ) : Type 0 where
 abbrev pub Proper : {X : Type 0} → Outcome X → Type 0
 Proper o = (k : ℕ) → o ≡ refused k → IsWord k
 
-differ : _≡_ {A = ℕ} 0 1 → ⊥
-differ e = omega arith
-
 -- ---- steps
 
 pub proper-accepted : {X : Type 0} (x : X) → Proper (accepted x)
-proper-accepted x k e = absurd (differ (cc))
+proper-accepted x k e = absurd (zero-is-not-one (cc))
 
 pub proper-then : {X Y : Type 0} (o : Outcome X) (next : X → Outcome Y) → Proper o → ((x : X) → Proper (next x)) → Proper (andThen o next)
 proper-then (accepted x) next h g k e = g x k e
@@ -77,7 +75,7 @@ small (refused k) h = h k refl .most
 
 pub accepts : {X : Type 0} (o : Outcome X) → Proper o → numberOf o ≡ 0 → (x : X) × (o ≡ accepted x)
 accepts (accepted x) h e = (x, refl)
-accepts (refused k) h e = absurd (differ (omega (arith, h k refl .some)))
+accepts (refused k) h e = absurd (omega (arith, h k refl .some))
 
 -- an outcome whose number is not 0 is that refusal
 pub refuses : {X : Type 0} (o : Outcome X) → (numberOf o ≡ 0 → ⊥) → o ≡ refused (numberOf o)
@@ -92,7 +90,7 @@ pub record Passed {X Y : Type 0} (o : Outcome X) (next : X → Outcome Y) (y : Y
 
 pub passed : {X Y : Type 0} (o : Outcome X) (next : X → Outcome Y) (y : Y) → andThen o next ≡ accepted y → Passed o next y
 passed (accepted x) next y e = record { value = x; first = refl; then = e }
-passed (refused k) next y e = absurd (differ (cc))
+passed (refused k) next y e = absurd (zero-is-not-one (cc))
 
 pub record NoWord {X : Type 0} (w : ℕ) (o : Outcome X) (y : X) : Type 0 where
   pub none : w ≡ 0
@@ -100,4 +98,4 @@ pub record NoWord {X : Type 0} (w : ℕ) (o : Outcome X) (y : X) : Type 0 where
 
 pub passed-test : {X : Type 0} (w : ℕ) (o : Outcome X) (y : X) → unless w o ≡ accepted y → NoWord w o y
 passed-test zero o y e = record { none = refl; then = e }
-passed-test (suc w) o y e = absurd (differ (cc))
+passed-test (suc w) o y e = absurd (zero-is-not-one (cc))

@@ -17,14 +17,11 @@ use Rattle.definitions.specs.Refusals.{wordIf, modulusWord}
 use Rattle.definitions.specs.Groups.{Numeral, inFront, readNumber}
 use Rattle.definitions.specs.Files.{Header, Entries, controlsOf, readHeader, readEntries, readBody, tailWord}
 use Rattle.definitions.specs.Show.{readShown, shown, textOf}
-use Rattle.theory.specs.Tests.{below-or, and-true-left, and-true-right}
+use Rattle.theory.specs.Tests.{below-or, and-true-left, and-true-right, zero-is-not-one}
 use Rattle.checks.specs.Words.{no-word}
 use Rattle.number_groups.specs.Numbers.{reads-none, reads-last, reads-more, reads-word, in-front}
 use Rattle.table_header.specs.Words.{passed, passed-test}
 use Rattle.table_header.specs.Headers.{header-few}
-
-differ : _≡_ {A = ℕ} 0 1 → ⊥
-differ e = omega arith
 
 -- ---- a number
 
@@ -60,7 +57,7 @@ last-read : (b : ℕ) (bs : List ℕ) (x : Numeral) → b < 128 → readNumber (
 last-read b bs x l e = let f = sym (reads-last b bs l) ∙ e in cc
 
 none-read : (x : Numeral) → readNumber [] ≡ accepted x → ⊥
-none-read x e = let f = sym reads-none ∙ e in differ (cc)
+none-read x e = let f = sym reads-none ∙ e in zero-is-not-one (cc)
 
 more-reads : (b : ℕ) (bs : List ℕ) (y x : Numeral) (rest : List ℕ) → 128 ≤ b → InFront (b - 128) y x →
     readNumber bs ≡ accepted (record { value = y .value; rest = rest }) → readNumber (b ∷ bs) ≡ accepted (record { value = x .value; rest = rest })
@@ -117,11 +114,11 @@ large : (b : ℕ) (bs : List ℕ) (x : Numeral) (m : MoreRead b bs x) → 128 * 
 large b bs x m = (omega (arith, ap (λ (z : Numeral). z .value) (m .front .same)), m .front .some)
 
 number-cut : (j k : ℕ) (bs : List ℕ) (x : Numeral) → readNumber bs ≡ accepted x → x .value < 128 ^ suc j → suc j ≤ k → NumberCut (suc j) k bs x
-number-cut j zero bs x e h l = absurd (differ (omega arith))
+number-cut j zero bs x e h l = absurd (omega arith)
 number-cut j (suc k) [] x e h l = absurd (none-read x e)
 number-cut zero (suc k) (b ∷ bs) x e h l = ⊎-elim
     (λ (s : b < 128). last-cut zero k b bs x s e)
-    (λ (s : 128 ≤ b). let m = more-read b bs x s e in let g = large b bs x m in absurd (differ (omega arith)))
+    (λ (s : 128 ≤ b). let m = more-read b bs x s e in let g = large b bs x m in absurd (omega arith))
     (below-or b 128)
 number-cut (suc j) (suc k) (b ∷ bs) x e h l = ⊎-elim
     (λ (s : b < 128). last-cut (suc j) k b bs x s e)
@@ -177,7 +174,7 @@ number-by k bs (accepted y) (refused w) d e h =
     let all : readNumber bs ≡ accepted (record { value = y .value; rest = y .rest ++ drop k bs }) =
     ap readNumber (sym (take-append-drop k bs)) ∙ append-read (take k bs) (drop k bs) y d in
     let f = sym e ∙ all in
-    absurd (differ (cc))
+    absurd (zero-is-not-one (cc))
 number-by k bs (refused v) (refused w) d e h = inr (ap refused (reads-word (take k bs) v d ∙ sym (reads-word bs w e)))
 
 number-start : (k : ℕ) (bs : List ℕ) → 5 ≤ k → Same cutNumber 5 k (readNumber (take k bs)) (readNumber bs)
@@ -222,7 +219,7 @@ entries-start (suc c) m k bs h =
 -- ---- the end
 
 tail-start : (left : ℕ) (rest : List ℕ) → 0 < left → tailWord (take left rest) ≡ tailWord rest
-tail-start zero rest h = absurd (differ (omega arith))
+tail-start zero rest h = absurd (omega arith)
 tail-start (suc left) [] h = refl
 tail-start (suc left) (x ∷ rest) h = rw (eqb·suc-zero (length (take left rest)), eqb·suc-zero (length rest))
 

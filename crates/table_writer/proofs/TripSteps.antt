@@ -134,9 +134,6 @@ module _ (n m : ℕ) (a buffer back : List ℕ) {w : Written} {last : List ℕ}
 
 -- ---- read, then written
 
-differ : _≡_ {A = ℕ} 0 1 → ⊥
-differ e = omega arith
-
 -- the answer of the reader
 abbrev pub Answered : List ℕ → ℕ → HeaderAnswer → Type 0
 Answered bytes long r = AnswerIs (readerNumber bytes long) (readerControls bytes long) (readerModulus bytes long) r
@@ -146,7 +143,7 @@ refusal-by : (bytes : List ℕ) (long : ℕ) (o : Outcome TableFile) {word : ℕ
     AnswerIs (numberOf o) (valueOr 0 (λ t. t .controls) o) (valueOr 0 (λ t. t .modulus) o) (Refused word) → o ≡ refused word
 refusal-by bytes long (accepted t) e b h =
     let w = round-trip .forth bytes long t b e .0 in
-    absurd (differ (omega (arith, h .m-is, w .lowest)))
+    absurd (omega (arith, h .m-is, w .lowest))
 refusal-by bytes long (refused k) e b h = ap refused (sym (h .number-is))
 
 pub refusal : (bytes : List ℕ) (long : ℕ) {word : ℕ} → allBelow 256 bytes ≡ true → Answered bytes long (Refused word) → readTable bytes long ≡ refused word

@@ -37,9 +37,6 @@ pub record RoundTrip : Type 0 where
   pub forth : (bytes : List ℕ) (long : ℕ) (t : TableFile) → allBelow 256 bytes ≡ true → readTable bytes long ≡ accepted t →
       Writable (t .controls) (t .modulus) (t .entries) × (bytes ≡ fileOf (t .controls) (t .modulus) (t .entries))
 
-differ : _≡_ {A = ℕ} 0 1 → ⊥
-differ e = omega arith
-
 -- ---- what is written reads back
 
 entry-back : (m x : ℕ) (rest : List ℕ) → m ≤ largestModulus → x < m →
@@ -142,7 +139,7 @@ entries-forth (suc k) m bytes x h e =
 
 no-bytes : (rest : List ℕ) → length rest ≡ 0 → rest ≡ []
 no-bytes [] e = refl
-no-bytes (x ∷ rest) e = absurd (differ (omega arith))
+no-bytes (x ∷ rest) e = absurd (omega arith)
 
 no-tail : (rest : List ℕ) → tailWord rest ≡ 0 → rest ≡ []
 no-tail rest t =

@@ -100,11 +100,6 @@ module _ (p q : ℕ → ℕ → ℕ) where
       up : (a c : ℕ) → 2 ^ n + (a * 2 ^ suc i + c) ≡ (2 ^ (n - suc i) + a) * 2 ^ suc i + c
       up a c = omega (arith, above n i h)
 
-  passes-ext : (n i : ℕ) → i ≤ n → (f g : ℕ → ℕ) → ((S : ℕ) → S < 2 ^ n → f S ≡ g S) → (S : ℕ) → S < 2 ^ n → passes p q i f S ≡ passes p q i g S
-  unfolding passes
-  passes-ext n zero h f g e = e
-  passes-ext n (suc i) h f g e = pass-ext n i h _ _ (passes-ext n i (omega arith) f g e)
-
   passes-above : (n i : ℕ) → i ≤ n → (f : ℕ → ℕ) (S : ℕ) → passes p q i f (2 ^ n + S) ≡ passes p q i (λ c. f (2 ^ n + c)) S
   unfolding passes
   passes-above n zero h f S = refl

@@ -1,13 +1,13 @@
 -- Remainders by m of sums, products and differences.
 --   mod-add, mod-mul       equal remainders give equal remainders
---   mod-sub                what is left of y + x after y is taken away round through m
+--   mod-back               y is taken away round through m and comes back
+--   lacks, mod-sub         of that: what x lacks to m; what is left of y + x after y is taken away
 --   minus-one              m - 1 for -1
 --   minus-times            a difference, by m - 1
 --   mod-cancel             equal summands cancel
---   half-power             for odd m, the inverse of 2 ^ n
 use mathlib.Core.Path.{_≡_, refl, sym, ap, ap₂, _∙_}
-use Prim.Native.Nat.{ℕ, zero, suc, _+_, _-_, _*_, _/_, _%_, _^_, _<_}
-use native.Mathlib.Nat.{add-mod, mod-add-mod, mod-lt, div-add-mod', mul-add-mod-self-right, mul-mod-left, zero-mod, mul-comm, zero-add, pow-zero, pow-suc}
+use Prim.Native.Nat.{ℕ, _+_, _-_, _*_, _/_, _%_, _<_, _≤_}
+use native.Mathlib.Nat.{add-mod, add-mod-right, mod-add-mod, mod-lt, div-add-mod', mul-add-mod-self-right, mul-mod-left, zero-mod, mul-comm, zero-add}
 use native.Mathlib.Omega.{arith}
 
 pub mod-add : (m a b c d : ℕ) → a % m ≡ c % m → b % m ≡ d % m → (a + b) % m ≡ (c + d) % m
@@ -24,19 +24,23 @@ mod-mul m a b c d p q =
     mul-mod-l m a b ∙ ap (λ (k : ℕ). k * b % m) p ∙ sym (mul-mod-l m c b) ∙ ap (λ (k : ℕ). k % m) (mul-comm c b)
     ∙ mul-mod-l m b c ∙ ap (λ (k : ℕ). k * c % m) q ∙ sym (mul-mod-l m d c) ∙ ap (λ (k : ℕ). k % m) (mul-comm d c)
 
+pub mod-back : (m x y : ℕ) → y ≤ m → ((x + (m - y)) % m + y) % m ≡ x % m
+mod-back m x y h =
+    let e : x + (m - y) + y ≡ x + m = omega arith in
+    mod-add-mod (x + (m - y)) m y ∙ ap (λ (k : ℕ). k % m) e ∙ add-mod-right x m
+
 module _ (m : ℕ) (pos : 0 < m) where
-  -- x and what x lacks to m
+  -- the same of any y, by its remainder
+  back : (x y : ℕ) → (x + (m - y % m) + y) % m ≡ x % m
+  back x y = add-mod (x + (m - y % m)) y m ∙ mod-back m x (y % m) (omega (arith, mod-lt y pos))
+
   pub lacks : (x : ℕ) → (m - x % m + x) % m ≡ 0
-  lacks x =
-      let shape : m - x % m + x ≡ suc (x / m) * m = omega (arith, mod-lt x pos, div-add-mod' x m) in
-      ap (λ (y : ℕ). y % m) shape ∙ mul-mod-left (suc (x / m)) m
+  lacks x = ap (λ (k : ℕ). (k + x) % m) (sym (zero-add (m - x % m))) ∙ back 0 x ∙ zero-mod m
 
   pub mod-sub : (x y : ℕ) → ((y + x) % m + (m - y % m)) % m ≡ x % m
   mod-sub x y =
-      mod-add-mod (y + x) m (m - y % m)
-      ∙ ap (λ (k : ℕ). k % m) (let e : y + x + (m - y % m) ≡ m - y % m + y + x = omega arith in e)
-      ∙ mod-add m (m - y % m + y) x 0 x (lacks y ∙ sym (zero-mod m)) refl
-      ∙ ap (λ (k : ℕ). k % m) (zero-add x)
+      let e : y + x + (m - y % m) ≡ x + (m - y % m) + y = omega arith in
+      mod-add-mod (y + x) m (m - y % m) ∙ ap (λ (k : ℕ). k % m) e ∙ back x y
 
   pub mod-cancel : (x y z w : ℕ) → x % m ≡ z % m → (x + y) % m ≡ (z + w) % m → y % m ≡ w % m
   mod-cancel x y z w p e =
@@ -65,14 +69,3 @@ module _ (m : ℕ) (pos : 0 < m) where
       let once : c + 1 ≡ c * 1 + 1 = omega arith in
       mod-cancel c (c * c) c 1 refl
       (ap (λ (k : ℕ). k % m) twice ∙ minus-one c ∙ sym (minus-one 1) ∙ ap (λ (k : ℕ). k % m) (sym once))
-
--- for odd m, what halves
-pub half-power : (m n : ℕ) → m % 2 ≡ 1 → (m / 2 + 1) ^ n * 2 ^ n % m ≡ 1 % m
-half-power m zero odd = rw (pow-zero (m / 2 + 1), pow-zero 2)
-half-power m (suc n) odd =
-    let h : ℕ = m / 2 + 1 in
-    let shape : h ^ n * h * (2 ^ n * 2) ≡ h ^ n * 2 ^ n * (h * 2) = omega arith in
-    let two : h * 2 ≡ 1 * m + 1 = omega arith in
-    rw (pow-suc h n, pow-suc 2 n)
-    (ap (λ (k : ℕ). k % m) shape
-    ∙ mod-mul m (h ^ n * 2 ^ n) (h * 2) 1 1 (half-power m n odd) (ap (λ (k : ℕ). k % m) two ∙ mul-add-mod-self-right 1 m 1))

@@ -3,7 +3,7 @@
 --   listSum-    append, map, flat, keep, tabulate, subsets; scale, null
 --   count-      last, ext, halves
 --   some-found, some-which, some-none, none-some    the test, place by place
---   le-largest, largest-le                          the largest is the least bound; largest-last, largest-ext
+--   le-largest, largest-le                          the largest is the least bound; largest-last
 use mathlib.Core.Path.{_≡_, refl, sym, ap, ap₂, _∙_}
 use mathlib.Core.Bool.{Bool, true, false, cond}
 use mathlib.Core.List.{List, [], _∷_, _++_, map, flatMap}
@@ -14,6 +14,7 @@ use native.Mathlib.Omega.{arith}
 use native.Mathlib.Decide.{ℕ-discrete}
 use Rattle.definitions.specs.Sums.{sum, listSum, count, some, largest, tabulate, keep}
 use Rattle.definitions.specs.Sets.{inside, subsets}
+use Rattle.theory.specs.Tests.{zero-is-not-one}
 
 -- ---- sum
 
@@ -169,7 +170,7 @@ none-some (suc n) test h = rw (h n (omega arith)) (none-some n test (λ i k. h i
 -- some i passes, and this is one
 pub some-which : (n : ℕ) (test : ℕ → Bool) → some n test ≡ true → (i : ℕ) × (i < n) × (test i ≡ true)
 unfolding some
-some-which zero test e = absurd (let z : _≡_ {A = ℕ} 0 1 = cc in omega arith)
+some-which zero test e = absurd (zero-is-not-one (cc))
 some-which (suc n) test e = which (test n) refl e (some-which n test) where
   which : (b : Bool) → test n ≡ b → cond b true (some n test) ≡ true → (some n test ≡ true → (i : ℕ) × (i < n) × (test i ≡ true))
       → (i : ℕ) × (i < suc n) × (test i ≡ true)
@@ -181,11 +182,6 @@ some-which (suc n) test e = which (test n) refl e (some-which n test) where
 pub largest-last : (n : ℕ) (f : ℕ → ℕ) → largest (suc n) f ≡ max (largest n f) (f n)
 unfolding largest
 largest-last n f = refl
-
-pub largest-ext : (n : ℕ) (f g : ℕ → ℕ) → ((i : ℕ) → i < n → f i ≡ g i) → largest n f ≡ largest n g
-unfolding largest
-largest-ext zero f g h = refl
-largest-ext (suc n) f g h = ap₂ max (largest-ext n f g (λ i k. h i (omega arith))) (h n (omega arith))
 
 pub le-largest : (n : ℕ) (f : ℕ → ℕ) (i : ℕ) → i < n → f i ≤ largest n f
 unfolding largest

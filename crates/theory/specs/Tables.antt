@@ -3,14 +3,15 @@
 --   product-comm, product-assoc, product-unit, product-of-sum    the subset product
 --   sum-of-difference                          A - B + B = A
 --   exponential-of-sum                         exp (A + B) = exp A · exp B
+--   exponential-as-composition                 exp A is the composition of A with a row of ones
 --   composition-of-product                     composition with a binomial product of rows
 --   product-residues, composition-residues     remainders taken early do not matter; composition-row: in the row neither
 --   exponential-first, sum-first               first entries
 --   composition-halves, exponential-halves     the halves of the result from those of the table
 use mathlib.Core.Path.{_≡_, refl, sym, ap, ap₂, _∙_}
 use mathlib.Core.List.{List, _++_}
-use Prim.Native.Nat.{ℕ, suc, _+_, _%_, _^_, _<_, _≤_, _-_}
-use native.Mathlib.Nat.{mod-mod, mod-eq-of-lt, zero-mod, mod-add-mod, add-mod-right}
+use Prim.Native.Nat.{ℕ, suc, _+_, _%_, _^_, _<_, _≤_}
+use native.Mathlib.Nat.{mod-mod, mod-eq-of-lt, zero-mod}
 use native.Mathlib.Omega.{arith}
 use lib.ListN.{length, take, drop}
 use lib.Pow.{pow-pos}
@@ -20,10 +21,14 @@ use Rattle.definitions.specs.Products.{residues, sumTable, differenceTable, sub
 use Rattle.definitions.specs.Rows.{binomialSum, binomialRow}
 use Rattle.definitions.specs.Partitions.{compositionSum, compositionTable, exponentialTable, allOnes, unit}
 use Rattle.theory.specs.Lists.{at-tabulate, at-residues, residues-ext, residues-self, residues-halves}
-use Rattle.theory.specs.Remainders.{mod-add}
+use Rattle.theory.specs.Remainders.{mod-add, mod-back}
 use Rattle.theory.specs.Halves.{Row, shift}
 use Rattle.theory.specs.Composition.{composition-empty, composition-lo, composition-hi}
 use Rattle.theory.specs.Series.{subset-comm, subset-assoc, subset-plus, subset-unit, exponential-plus, composition-binomial, subset-mod, composition-mod}
+
+-- the row of ones
+unfoldable pub onesRow : ℕ → List ℕ
+onesRow n = tabulate (n + 1) allOnes
 
 module _ (n m : ℕ) where
   pub at-mod : (f : ℕ → ℕ) (S : ℕ) → S < 2 ^ n → at (residues n m f) S % m ≡ f S % m
@@ -64,19 +69,26 @@ module _ (n m : ℕ) where
       → sumTable n m (differenceTable n m A B) B ≡ A
   sum-of-difference A B l a b =
       residues-ext n m _ (at A) (λ S h.
-      let back : at A S + (m - at B S) + at B S ≡ at A S + m = omega (arith, b S h) in
-      ap (λ (k : ℕ). (k + at B S) % m) (at-residues n m _ S h) ∙ mod-add-mod (at A S + (m - at B S)) m (at B S)
-      ∙ ap (λ (k : ℕ). k % m) back ∙ add-mod-right (at A S) m)
+      ap (λ (k : ℕ). (k + at B S) % m) (at-residues n m _ S h) ∙ mod-back m (at A S) (at B S) (omega (arith, b S h)))
       ∙ residues-self n m A l a
 
   pub exponential-of-sum : (A B : List ℕ) → exponentialTable n m (sumTable n m A B) ≡ subsetTable n m (exponentialTable n m A) (exponentialTable n m B)
   exponential-of-sum A B =
       composition-residues allOnes _ ∙ same (exponential-plus n (at A) (at B)) ∙ sym (product-residues _ _)
 
+  -- a row counts up to its entry n, and modulo m
+  row-mod : (f g : Row) (A : List ℕ) → ((k : ℕ) → g k % m ≡ f k % m) → compositionTable n m (tabulate (n + 1) g) A ≡ residues n m (compositionSum n f (at A))
+  row-mod f g A e = residues-ext n m _ _ (composition-mod n m _ f (at A) (at A)
+      (λ k h. ap (λ (x : ℕ). x % m) (at-tabulate (n + 1) g k (omega arith)) ∙ e k) (λ S h. refl))
+
   -- a row of remainders does for the row
   pub composition-row : (f : Row) (A : List ℕ) → compositionTable n m (tabulate (n + 1) (λ k. f k % m)) A ≡ residues n m (compositionSum n f (at A))
-  composition-row f A = residues-ext n m _ _ (composition-mod n m _ f (at A) (at A)
-      (λ k h. ap (λ (x : ℕ). x % m) (at-tabulate (n + 1) _ k (omega arith)) ∙ mod-mod _ m) (λ S h. refl))
+  composition-row f A = row-mod f _ A (λ k. mod-mod (f k) m)
+
+  -- 01: exponential is composition with a row of ones (`checks`, Accepted: the call takes that row)
+  pub exponential-as-composition : (A : List ℕ) → exponentialTable n m A ≡ compositionTable n m (onesRow n) A
+  unfolding onesRow
+  exponential-as-composition A = sym (row-mod allOnes allOnes A (λ k. refl))
 
   pub composition-of-product : (f g A : List ℕ) → compositionTable n m (binomialRow n m f g) A ≡ subsetTable n m (compositionTable n m f A) (compositionTable n m g A)
   unfolding binomialRow

@@ -2,6 +2,7 @@
 --   same-test, no-test, yes-test    a test by what it implies
 --   and-left, and-right, and-both   the tests that `&&` joins, as proofs; and-true-left, .. as equations
 --   below-or                        a number is below a bound or not
+--   zero-is-not-one                 for two constructors that cannot be the same: `cc` proves 0 = 1 of them
 --   guard-ext, guard-zero           guarded terms
 use mathlib.Core.Path.{_≡_, refl}
 use mathlib.Core.Bool.{Bool, true, false, cond, _&&_}
@@ -42,6 +43,9 @@ and-true-left false c e = e
 pub and-true-right : (b c : Bool) → (b && c) ≡ true → c ≡ true
 and-true-right true c e = e
 and-true-right false c e = cc
+
+pub zero-is-not-one : _≡_ {A = ℕ} 0 1 → ⊥
+zero-is-not-one e = omega arith
 
 pub below-or : (c m : ℕ) → (c < m) ⊎ (m ≤ c)
 below-or c m = elim (decLt c m) [ yes h ↦ inl h | no k ↦ inr (omega arith) ]

@@ -2,11 +2,11 @@
 use mathlib.Core.Path.{_≡_, refl, ap, ap₂, sym, _∙_}
 use mathlib.Core.List.{List}
 use Prim.Native.Nat.{ℕ, suc, _+_, _-_, _*_, _%_, _^_, _<_, _≤_}
-use native.Mathlib.Nat.{add-zero, add-comm, mod-lt, mod-mod, mod-add-mod, mul-add-mod-self-right}
+use native.Mathlib.Nat.{add-zero, add-comm, mod-lt, mod-mod}
 use native.Mathlib.Omega.{arith}
 use lib.ListN.{length, set}
 use Rattle.definitions.specs.Sums.{tabulate, at}
-use Rattle.theory.specs.Remainders.{mod-add, mod-cancel}
+use Rattle.theory.specs.Remainders.{mod-add, mod-back, mod-cancel}
 use Rattle.theory.specs.Convolution.{takeLower}
 use Rattle.theory.specs.Passes.{pass, passes, pass-lo, pass-hi}
 use Rattle.checks.specs.Accepted.{IsTable}
@@ -25,9 +25,7 @@ joined g e c d = e ∙ ap₂ g c d
 module _ {m : ℕ} (pos : 0 < m) where
   -- what was taken is added again
   back : (lo hi : ℕ) → lo < m → (takeLower m lo hi + lo) % m ≡ hi % m
-  back lo hi h =
-      let e : hi + (m - lo) + lo ≡ 1 * m + hi = omega arith in
-      mod-add-mod (hi + (m - lo)) m lo ∙ ap (λ (k : ℕ). k % m) e ∙ mul-add-mod-self-right 1 m hi
+  back lo hi h = mod-back m hi lo (omega arith)
 
   -- both - second - (first - neither) is both + neither - (first + second)
   module _ {x : Four} (h : FourBelow m x) {whole parts : ℕ} (is-whole : whole ≡ (x .both + x .neither) % m) (is-parts : parts ≡ (x .first + x .second) % m) where
