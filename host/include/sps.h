@@ -11,8 +11,9 @@
  * Pad.  Where a call takes a pad, it needs SPS_PAD_LENGTH(n) entries.  After an accepted call these are 0, and the rest of
  * a longer pad is unchanged.
  *
- * Refusals.  A call answers 0 when it is accepted, else the number of the first of these conditions that applies.  A
- * refused call changes nothing that it was lent, and every other number that it returns is 0.
+ * Refusals.  A call answers with a number: 0 when it is accepted, else that of the first of these conditions that applies.
+ * Functions that answer more return it packed with the number into 64 bits, as each says.  A refused call changes nothing
+ * that it was lent, and every other number that it answers is 0.
  */
 #ifndef SPS_H
 #define SPS_H

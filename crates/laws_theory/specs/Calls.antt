@@ -10,7 +10,7 @@ use Rattle.definitions.specs.Partitions.{compositionTable, exponentialTable, Is
 use Rattle.definitions.specs.Refusals.{firstWord, tableWord, padWord, padAfter, sumNumber, binomialNumber, productNumber, exponentialNumber, logarithmNumber, compositionNumber}
 
 -- one call: the result and the pad that it was lent as they were, the number that it returned, and what result and pad then
--- held. A call with no pad has [] for it.
+-- held. Of a call that takes no pad nothing is said of `pad` and `pad-left`: write [] there.
 pub record Call : Type 0 where
   pub lent : List ℕ
   pub pad : List ℕ
@@ -22,13 +22,13 @@ pub record Call : Type 0 where
 abbrev pub Done : Call → Type 0
 Done c = c .number ≡ 0
 
--- a call with no pad: it returns this number; what is right stands in its result if that is 0, and what it was lent if not
+-- number and result: the call returns this number; what is right stands in its result if that is 0, and what it was lent if not
 pub record Made (number : ℕ) (Right : List ℕ → Type 0) (c : Call) : Type 0 where
   pub says : c .number ≡ number
   pub holds : Done c → Right (c .result)
   pub kept : (Done c → ⊥) → c .result ≡ c .lent
 
--- a call with a pad: the same, and what it leaves there
+-- number, result and pad
 pub record MadeInPad (n number : ℕ) (Right : List ℕ → Type 0) (c : Call) : Type 0 where
   pub made : Made number Right c
   pub clears : c .pad-left ≡ padAfter (c .number) n (c .pad)

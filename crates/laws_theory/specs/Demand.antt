@@ -14,16 +14,16 @@ use Rattle.laws_theory.specs.Calls.{Call, Done, lentWord, Sum, Binomial,
 pub record Calls : Type 0 where
   pub sum : Call  -- A + B
   pub exp-sum : Call  -- the exponential of `sum`
-  pub exp-A : Call
-  pub exp-B : Call
+  pub exp-A : Call  -- the exponential of A
+  pub exp-B : Call  -- the exponential of B
   pub product : Call  -- the subset product of `exp-A` and `exp-B`
   pub log-exp : Call  -- the logarithm of `exp-A`
-  pub log-E : Call
+  pub log-E : Call  -- the logarithm of E
   pub exp-log : Call  -- the exponential of `log-E`
   pub binomial : Call  -- the binomial product of f and g
-  pub comp-binomial : Call  -- A with the row `binomial`
-  pub comp-f : Call
-  pub comp-g : Call
+  pub comp-binomial : Call  -- A composed with the row `binomial`
+  pub comp-f : Call  -- A composed with f
+  pub comp-g : Call  -- A composed with g
   pub comp-product : Call  -- the subset product of `comp-f` and `comp-g`
 
 -- ---- what each promises
