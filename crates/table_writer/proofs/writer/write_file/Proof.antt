@@ -17,16 +17,18 @@ write-number-requires-2 : tie.Need-write-number-requires-2
 write-number-requires-2 c κs =
     let start = c .before .before .before .before .before .before .before in
     let write-number = c .before .before .before .write-number in
-    omega
-    (arith, start .pre, file-length (start .args .n) (start .args .m) (now (start .args .table)), write-number .ensures .0, simp length-sets at (ap length (write-number .ensures .1)))
+    let file = file-length (start .args .n) (start .args .m) (now (start .args .table)) in
+    omega (arith, start .pre, write-number .ensures .0, simp length-sets at (ap length (write-number .ensures .1)))
 
 write-entries-requires : tie.Need-write-entries-requires
 write-entries-requires c κs =
     let start = c .before .before .before .before .before .before .before .before .before .before .before in
     let write-number = c .before .before .before .before .before .before .before .write-number in
     let write-number2 = c .before .before .before .write-number2 in
-    omega
-    (arith, start .pre, file-length (start .args .n) (start .args .m) (now (start .args .table)), write-number .ensures .0, simp length-sets at (ap length (write-number .ensures .1)), write-number2 .ensures .0, simp length-sets at (ap length (write-number2 .ensures .1)))
+    let file = file-length (start .args .n) (start .args .m) (now (start .args .table)) in
+    let one = simp length-sets at (ap length (write-number .ensures .1)) in
+    let two = simp length-sets at (ap length (write-number2 .ensures .1)) in
+    omega (arith, start .pre, write-number .ensures .0, write-number2 .ensures .0)
 
 same-length : tie.Need-same-length
 same-length c = search needs
