@@ -8,11 +8,13 @@ ghost use Rattle.checks.specs.Answers.{IsChecked, alsoTested};
 pub use pads::clear;
 pub use pads::pad_length;
 pub use pads::power;
+pub use refusal_words::MOST_CONTROLS;
 use refusal_words::entry_word;
 use refusal_words::first_word;
 use refusal_words::halving_word;
 use refusal_words::length_word;
 use refusal_words::pad_word;
+use refusal_words::panel_word;
 use refusal_words::start_word;
 use residues::Modulus;
 use residues::ModulusAnswer;
@@ -22,9 +24,6 @@ pub enum Checked {
     Accepted(Modulus),
     Refused(u32),
 }
-
-// The most controls that a panel has.
-pub const MOST_CONTROLS: u32 = 16;
 
 impl Checked {
     // The answer if one more test, with this word, is made after the others.
@@ -78,7 +77,7 @@ fn check_lists(m: u32, long: usize, a: &[u32], b: &[u32], result: usize) -> Chec
 pub fn check_pair(n: u32, m: u32, a: &[u32], b: &[u32], result: usize) -> Checked
     ensures { λ r. ⌜ IsChecked m (sumNumber n m (now (a .entry)) (now (b .entry)) result) r ⌝ }
 {
-    if MOST_CONTROLS < n {
+    if panel_word(n) != 0 {
         return Checked::Refused(1);
     }
     check_lists(m, power(n), a, b, result)
@@ -88,7 +87,7 @@ pub fn check_pair(n: u32, m: u32, a: &[u32], b: &[u32], result: usize) -> Checke
 pub fn check_rows(n: u32, m: u32, f: &[u32], g: &[u32], result: usize) -> Checked
     ensures { λ r. ⌜ IsChecked m (binomialNumber n m (now (f .entry)) (now (g .entry)) result) r ⌝ }
 {
-    if MOST_CONTROLS < n {
+    if panel_word(n) != 0 {
         return Checked::Refused(1);
     }
     let long = (n as usize) + 1;
@@ -106,7 +105,7 @@ pub fn check_product(
 ) -> Checked
     ensures { λ r. ⌜ IsChecked m (productNumber n m (now (a .entry)) (now (b .entry)) result workspace) r ⌝ }
 {
-    if MOST_CONTROLS < n {
+    if panel_word(n) != 0 {
         return Checked::Refused(1);
     }
     let long = power(n);
@@ -133,7 +132,7 @@ pub fn check_xor(n: u32, m: u32, a: &[u32], b: &[u32], result: usize, workspace:
 pub fn check_single(n: u32, m: u32, a: &[u32], result: usize, workspace: usize) -> Checked
     ensures { λ r. ⌜ IsChecked m (singleNumber n m (now (a .entry)) result workspace) r ⌝ }
 {
-    if MOST_CONTROLS < n {
+    if panel_word(n) != 0 {
         return Checked::Refused(1);
     }
     let long = power(n);
@@ -172,7 +171,7 @@ pub fn check_composition(
 ) -> Checked
     ensures { λ r. ⌜ IsChecked m (compositionNumber n m (now (a .entry)) (now (f .entry)) result workspace) r ⌝ }
 {
-    if MOST_CONTROLS < n {
+    if panel_word(n) != 0 {
         return Checked::Refused(1);
     }
     let long = power(n);
@@ -192,7 +191,7 @@ pub fn check_composition(
 pub fn check_table(n: u32, m: u32, a: &[u32]) -> Checked
     ensures { λ r. ⌜ IsChecked m (tableNumber n m (now (a .entry))) r ⌝ }
 {
-    if MOST_CONTROLS < n {
+    if panel_word(n) != 0 {
         return Checked::Refused(1);
     }
     let words = [length_word(power(n), a.len()), entry_word(m, a)];

@@ -1,6 +1,6 @@
 -- The steps of reading a number group by group.
 use mathlib.Core.Path.{_≡_, refl, sym, _∙_, ap}
-use mathlib.Core.Bool.{Bool, true, false, cond, not, _&&_}
+use mathlib.Core.Bool.{Bool, true, false, cond, not, _&&_, and-false}
 use mathlib.Core.List.{List, _∷_}
 use Prim.Native.Nat.{ℕ, _+_, _-_, _*_, _^_, _<_, _≤_}
 use native.Mathlib.Numerals.{add-one}
@@ -30,12 +30,12 @@ module _ (low scale group next : ℕ) where
   pub last-zero : group ≡ 0 → Refused 8 ≡ lastGroup low scale group next
   last-zero e = rw e
 
-  module _ (some : (group ≡ 0) → ⊥) where
-    pub last-large : 4294967295 < low + scale * group → Refused 8 ≡ lastGroup low scale group next
-    last-large h = rw (lt-ltb 0 group (omega arith), le-ltb (low + scale * group) (2 ^ 32) (omega arith))
+  pub last-large : 4294967295 < low + scale * group → Refused 8 ≡ lastGroup low scale group next
+  last-large h = rw (le-ltb (low + scale * group) (2 ^ 32) (omega arith), and-false (ltb 0 group))
 
-    pub last-number : low + scale * group ≤ 4294967295 → Number (record { value = low + scale * group; next = next }) ≡ lastGroup low scale group next
-    last-number h = rw (lt-ltb 0 group (omega arith), lt-ltb (low + scale * group) (2 ^ 32) (omega arith))
+  pub last-number : ((group ≡ 0) → ⊥) → low + scale * group ≤ 4294967295 →
+      Number (record { value = low + scale * group; next = next }) ≡ lastGroup low scale group next
+  last-number some h = rw (lt-ltb 0 group (omega arith), lt-ltb (low + scale * group) (2 ^ 32) (omega arith))
 
 -- ---- one group more
 

@@ -6,8 +6,8 @@ fn main() {
     // 4,096 bytes: the first 1,291 decide what is printed (`shown-start` of table_show's specs/Start), however long the input.
     let mut input = io::buffer();
     let count = io::read_full(STDIN_FILENO, &mut input);
-    let mut table = [0u32; 256];
-    let mut text = [0u8; 8470];
-    let length = table_show::show(&input[..count], &mut table, &mut text);
+    let shown = table_show::show(&input[..count]);
+    let text = shown.bytes;
+    let length = shown.length;
     io::write_all(STDOUT_FILENO, &text[..length]);
 }

@@ -5,7 +5,16 @@ ghost use Prim.Native.Nat.{_≤_};
 ghost use lib.Dec.{eqb};
 ghost use Rattle.definitions.specs.Limits.{mostControls};
 ghost use Rattle.definitions.specs.Sums.{at};
-ghost use Rattle.definitions.specs.Refusals.{wordIf, firstWord, orElse, padWord, entryWord, startWord, halvingWord};
+ghost use Rattle.definitions.specs.Refusals.{wordIf, firstWord, orElse, panelWord, padWord, entryWord, startWord, halvingWord};
+
+// The most controls that a panel has.
+pub const MOST_CONTROLS: u32 = 16;
+
+pub fn panel_word(n: u32) -> u32
+    ensures { λ r. ⌜ r ≡ panelWord n ⌝ }
+{
+    if MOST_CONTROLS < n { 1 } else { 0 }
+}
 
 pub fn length_word(expected: usize, found: usize) -> u32
     ensures { λ r. ⌜ r ≡ wordIf (not (eqb found expected)) 3 ⌝ }

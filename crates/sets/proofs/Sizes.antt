@@ -5,7 +5,6 @@ use Prim.Native.Nat.{ℕ, zero, suc, _+_, _<_}
 use native.Mathlib.Nat.{add-zero, zero-add, add-suc, suc-add, le-of-suc-le-suc, not-suc-le-zero}
 use lib.ListN.{getD}
 use Rattle.definitions.specs.Sets.{size}
-use Rattle.sets.specs.Sizes.{SizeOfByte, size-le}
 
 -- the sizes of n codes, from the given one on
 unfoldable pub sizes : ℕ → ℕ → List ℕ
@@ -18,7 +17,5 @@ sizes-at zero code k h = absurd (not-suc-le-zero h)
 sizes-at (suc n) code zero h = ap size (sym (add-zero code))
 sizes-at (suc n) code (suc k) h = sizes-at n (suc code) k (le-of-suc-le-suc h) ∙ ap size (suc-add code k ∙ sym (add-suc code k))
 
-pub size-of : (byte : ℕ) → byte < 256 → SizeOfByte byte (getD (sizes 256 0) byte 0)
-size-of byte h =
-    let e : getD (sizes 256 0) byte 0 ≡ size byte = sizes-at 256 0 byte h ∙ ap size (zero-add byte) in
-    record { same = e; few = size-le 8 h e }
+pub size-of : (byte : ℕ) → byte < 256 → getD (sizes 256 0) byte 0 ≡ size byte
+size-of byte h = sizes-at 256 0 byte h ∙ ap size (zero-add byte)

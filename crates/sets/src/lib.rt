@@ -288,7 +288,7 @@ fn size_of_byte(byte: usize) -> usize
     requires { ⌜ byte < 256 ⌝ }
     ensures { λ r. ⌜ SizeOfByte byte r ⌝ }
 {
-    SIZES[byte] as usize
+    wide(SIZES[byte])
 }
 
 impl SetCode {

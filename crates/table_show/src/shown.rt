@@ -4,7 +4,8 @@ ghost use Prim.Native.Nat.{_^_, _≤_};
 ghost use lib.ListN.{length};
 ghost use Rattle.definitions.specs.Limits.{mostShown};
 ghost use Rattle.definitions.specs.Show.{textOf};
-ghost use Rattle.definitions.specs.Files.{readBody};
+ghost use Rattle.definitions.specs.Files.{readHeader, readBody};
+ghost use Rattle.table_header.specs.HeaderAnswers.{openingOutcome};
 ghost use Rattle.table_file.specs.Entries.{headerAt};
 ghost use Rattle.table_show.specs.Text.{Writes, Lent, Shows, longestText};
 use crate::text::write_refusal;
@@ -34,17 +35,43 @@ fn show_table(opening: Opening, bytes: &[u8], table: &mut [u32], out: &mut [u8])
     write_table_text(opening.n, opening.m, table, out)
 }
 
+// The header of a file that is shown.
+fn shown_opening(bytes: &[u8]) -> OpeningAnswer
+    ensures { λ r. ⌜ openingOutcome (now (bytes .entry)) r ≡ readHeader mostShown (now (bytes .entry)) ⌝ }
+{
+    read_opening(MOST_SHOWN, bytes)
+}
+
 // Puts what `panelshow` prints of some bytes at the start of the buffer, and answers how many bytes that are. The table is a
 // workspace.
-pub fn show(bytes: &[u8], table: &mut [u32], out: &mut [u8]) -> usize
+fn write_shown(bytes: &[u8], table: &mut [u32], out: &mut [u8]) -> usize
     requires { ⌜ Lent (now table) (now out) ⌝ }
     ensures { λ r. ⌜ Shows (now (bytes .entry)) r (now (out .exit)) ⌝ }
 {
-    match read_opening(MOST_SHOWN, bytes) {
+    match shown_opening(bytes) {
         OpeningAnswer::Opening(opening) => {
             let count = power(opening.n);
             show_table(opening, bytes, &mut table[..count], out)
         }
         OpeningAnswer::Refused(word) => write_refusal(word, out),
+    }
+}
+
+// A text, and how many of its bytes count: the longest has 8,470, a line of two numbers and 256 lines of three.
+pub struct Text {
+    pub bytes: [u8; 8470],
+    pub length: usize,
+}
+
+// What `panelshow` prints of some bytes.
+pub fn show(bytes: &[u8]) -> Text
+    ensures { λ r. ⌜ Shows (now (bytes .entry)) (r .length) (r .bytes) ⌝ }
+{
+    let mut table = [0u32; 256];
+    let mut out = [0u8; 8470];
+    let length = write_shown(bytes, &mut table, &mut out);
+    Text {
+        bytes: out,
+        length: length,
     }
 }

@@ -94,37 +94,21 @@ module _ (a : List ℕ) (at : ℕ) (old buffer : List ℕ) (place i : ℕ) (left
 
 -- ---- the file
 
+pub file-length : (n m : ℕ) (a : List ℕ) → length (fileOf n m a) ≡ length (groups n) + (length (groups m) + length (flatMap groups a))
+unfolding fileOf
+file-length n m a = omega (arith, length-append (groups n) (groups m ++ flatMap groups a), length-append (groups m) (flatMap groups a))
+
 module _ (n m : ℕ) (a old : List ℕ) where
-  file-length : length (fileOf n m a) ≡ length (groups n) + (length (groups m) + length (flatMap groups a))
+  pub file-written : {second third : ℕ} {one two last : List ℕ} → second ≡ 0 + length (groups n) → one ≡ sets old 0 (groups n) →
+      third ≡ second + length (groups m) → two ≡ sets one second (groups m) → last ≡ sets two third (flatMap groups a) →
+      last ≡ sets old 0 (fileOf n m a)
   unfolding fileOf
-  file-length = omega (arith, length-append (groups n) (groups m ++ flatMap groups a), length-append (groups m) (flatMap groups a))
-
-  module _ (fits : length (fileOf n m a) ≤ length old) where
-    pub first-fits : 0 + length (groups n) ≤ length old
-    first-fits = omega (arith, file-length)
-
-    module _ {second : ℕ} {one : List ℕ} (p : second ≡ 0 + length (groups n)) (f : one ≡ sets old 0 (groups n)) where
-      one-long : length one ≡ length old
-      one-long = ap length f ∙ length-sets old 0 (groups n)
-
-      pub second-fits : second + length (groups m) ≤ length one
-      second-fits = omega (arith, one-long, file-length)
-
-      module _ {third : ℕ} {two : List ℕ} (q : third ≡ second + length (groups m)) (g : two ≡ sets one second (groups m)) where
-        two-long : length two ≡ length one
-        two-long = ap length g ∙ length-sets one second (groups m)
-
-        pub entries-fit : third + length (flatMap groups a) ≤ length two
-        entries-fit = omega (arith, one-long, two-long, file-length)
-
-        pub file-written : {last : List ℕ} → last ≡ sets two third (flatMap groups a) → last ≡ sets old 0 (fileOf n m a)
-        unfolding fileOf
-        file-written e =
-            let behind : sets two third (flatMap groups a) ≡ sets one second (groups m ++ flatMap groups a) =
-            rw (q, g) (sym (sets-append one second (groups m) (flatMap groups a))) in
-            let all : sets one second (groups m ++ flatMap groups a) ≡ sets old 0 (groups n ++ (groups m ++ flatMap groups a)) =
-            rw (p, f) (sym (sets-append old 0 (groups n) (groups m ++ flatMap groups a))) in
-            e ∙ behind ∙ all
+  file-written {second} {third} {one} {two} p f q g e =
+      let behind : sets two third (flatMap groups a) ≡ sets one second (groups m ++ flatMap groups a) =
+      rw (q, g) (sym (sets-append one second (groups m) (flatMap groups a))) in
+      let all : sets one second (groups m ++ flatMap groups a) ≡ sets old 0 (groups n ++ (groups m ++ flatMap groups a)) =
+      rw (p, f) (sym (sets-append old 0 (groups n) (groups m ++ flatMap groups a))) in
+      e ∙ behind ∙ all
 
   -- ---- the buffer
 

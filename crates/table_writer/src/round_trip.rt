@@ -1,5 +1,6 @@
 // The round trip of the calls: a table that is written reads back, and a file that is read is written again.
 ghost use Rattle.table_writer.specs.Trips.{WrittenThenRead, ReadThenWritten};
+use crate::writer::NO_BYTES;
 use crate::writer::Written;
 use crate::writer::write_table;
 use table_file::HeaderAnswer;
@@ -32,7 +33,7 @@ pub fn read_then_write(bytes: &[u8], table: &mut [u32], buffer: &mut [u8]) -> Wr
         HeaderAnswer::Header(header) => write_table(header.n, header.m, table, buffer),
         HeaderAnswer::Refused(word) => Written {
             number: word,
-            count: 0,
+            count: NO_BYTES,
         },
     }
 }

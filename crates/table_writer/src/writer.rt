@@ -13,6 +13,9 @@ use checks::check_table;
 use number_groups::number_length;
 use number_groups::write_number;
 
+// How many bytes a refused call writes.
+pub const NO_BYTES: u32 = 0;
+
 // The number of a call of the writer, and how many bytes it wrote.
 pub struct Written {
     pub number: u32,
@@ -64,7 +67,7 @@ fn write_checked(n: u32, m: u32, table: &[u32], buffer: &mut [u8]) -> Written
     if buffer.len() < (count as usize) {
         return Written {
             number: 10,
-            count: 0,
+            count: NO_BYTES,
         };
     }
     write_file(n, m, table, buffer);
@@ -84,7 +87,7 @@ pub fn write_table(n: u32, m: u32, table: &[u32], buffer: &mut [u8]) -> Written
         Checked::Accepted(_) => write_checked(n, m, table, buffer),
         Checked::Refused(word) => Written {
             number: word,
-            count: 0,
+            count: NO_BYTES,
         },
     }
 }

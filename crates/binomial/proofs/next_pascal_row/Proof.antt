@@ -3,7 +3,7 @@ use mathlib.Core.List.{_∷_}
 use Prim.Native.Nat.{ℕ, _+_, _%_, _<_, _≤_, _-_}
 use native.Mathlib.Omega.{arith}
 use denote.Ref.{now}
-use lib.ListN.{length}
+use lib.ListN.{length, getD}
 use borrow.Author.Needs.{needs}
 use Rattle.definitions.specs.Sums.{at}
 use Rattle.theory.specs.Lists.{filled, filled-none, filled-all, turn, part}
@@ -33,13 +33,12 @@ add-requires c κs =
     let at = c .before .before in
     let s = at .before in
     let row = s .pre .1 in
-    let h : at .loop .j < length (now (s .args .row)) = omega (arith, row .size) in (
-      s .pre .0,
-      record {
-        first = rw (at-filled _ _ _ (at .loop .inv .1) h) (row .below (at .loop .j));
-        second = rw (at .loop .inv .2) (left-below (now (s .args .row)) (omega (arith, s .pre .0 .lowest)) (row .below) (at .loop .j));
-      },
-    )
+    let m = s .args .modulus .value in
+    let h : at .loop .j < length (now (s .args .row)) = omega (arith, row .size) in
+    let here : getD (at .loop .row) (at .loop .j) 0 < m = rw (at-filled _ _ _ (at .loop .inv .1) h) (row .below (at .loop .j)) in
+    let left : at .loop .left < m =
+    rw (at .loop .inv .2) (left-below (now (s .args .row)) (omega (arith, s .pre .0 .lowest)) (row .below) (at .loop .j)) in
+    (s .pre .0, record { first = search needs; second = search needs })
 
 mul-row : tie.Need-mul-row Inv-loop μ-loop
 mul-row c = search needs

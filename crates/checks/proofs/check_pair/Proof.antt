@@ -7,15 +7,19 @@ use Rattle.definitions.specs.Refusals.{firstWord, modulusWord, sumNumber}
 use Rattle.checks.specs.Accepted.{pairWords}
 use Rattle.checks.specs.Answers.{same-number}
 use Rattle.checks.proofs.Making.{panel-refused, past-panel}
+use Rattle.checks.proofs.Panels.{above, within}
 use Rattle.checks.proofs.check_pair.Statement.{statement}
 use Rattle.checks.proofs.check_pair.Tie as tie
 
+panel-word-requires : tie.Need-panel-word-requires
+panel-word-requires c κs = search needs
+
 returns : tie.Need-returns
 unfolding sumNumber
-returns c = panel-refused _ (c .if1 .taken)
+returns c = panel-refused _ (above (c .before .before .before .before .args .n) (c .before .panel-word .ensures) (c .if1 .taken))
 
 power-requires : tie.Need-power-requires
-power-requires c κs = search needs
+power-requires c κs = within (c .before .before .before .before .args .n) (c .before .panel-word .ensures) (c .if1 .left)
 
 check-lists-requires : tie.Need-check-lists-requires
 check-lists-requires c κs = search needs
@@ -23,10 +27,11 @@ check-lists-requires c κs = search needs
 returns-2 : tie.Need-returns-2
 unfolding sumNumber
 returns-2 c =
-    let s = c .before .before .before .before .before .args in
-    past-panel (s .n) (search needs)
+    let there = c .before .before in
+    let s = there .before .before .before .before .args in
+    past-panel (s .n) (within (s .n) (there .before .panel-word .ensures) (there .if1 .left))
     (same-number (ap (λ (k : ℕ). firstWord (modulusWord (s .m) ∷ pairWords (s .m) k (now (s .a)) (now (s .b)) (s .result))) (c .before .power .ensures))
     (c .check-lists .ensures))
 
 pub check-pair-spec : {M : Type 1} → statement M
-check-pair-spec = tie.close (tie.spec returns power-requires check-lists-requires returns-2)
+check-pair-spec = tie.close (tie.spec panel-word-requires returns power-requires check-lists-requires returns-2)

@@ -5,7 +5,7 @@ use Rattle.number_groups.proofs.last_group.Statement.{statement}
 use Rattle.number_groups.proofs.last_group.Tie as tie
 
 returns : tie.Need-returns
-returns c = last-zero _ _ _ _ (c .if1 .taken)
+returns c = let s = c .before .args in last-zero (s .value) (s .scale) (s .group) _ (omega arith)
 
 mul-whole : tie.Need-mul-whole
 mul-whole c = omega (arith, group-fits (c .before .args .scale) (c .before .pre .seven-bits))
@@ -14,7 +14,7 @@ add-whole : tie.Need-add-whole
 add-whole c = omega (arith, group-fits (c .before .args .scale) (c .before .pre .seven-bits))
 
 returns-2 : tie.Need-returns-2
-returns-2 c = last-large _ _ _ _ (c .before .if1 .left) (c .if2 .taken)
+returns-2 c = let s = c .before .before .args in last-large (s .value) (s .scale) (s .group) _ (omega arith)
 
 cast-t8 : tie.Need-cast-t8
 cast-t8 c = search needs

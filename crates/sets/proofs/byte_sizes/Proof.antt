@@ -5,7 +5,7 @@ use Rattle.sets.proofs.byte_sizes.Tie as tie
 
 returns : tie.Need-returns
 unfolding sizes ones
-returns c byte h = size-of byte h .same
+returns c byte h = size-of byte h
 
 pub byte-sizes-spec : {M : Type 1} → statement M
 byte-sizes-spec = tie.close (tie.spec returns)

@@ -1,20 +1,23 @@
+use mathlib.Core.Path.{_∙_}
 use borrow.Author.Needs.{needs}
-use native.Mathlib.Omega.{arith}
 use lib.Count.{ones}
+use Rattle.sets.specs.Sizes.{size-le}
 use Rattle.sets.proofs.Sizes.{sizes, size-of}
 use Rattle.sets.proofs.size_of_byte.Statement.{statement}
 use Rattle.sets.proofs.size_of_byte.Tie as tie
 
-array-read-result : tie.Need-array-read-result
-array-read-result c = search needs
+array-read-wide : tie.Need-array-read-wide
+array-read-wide c = search needs
 
-cast-result : tie.Need-cast-result
-unfolding sizes ones
-cast-result c = let h = size-of (c .args .byte) (c .pre) in record { fits = omega arith }
+wide-requires : tie.Need-wide-requires
+wide-requires c κs = search needs
 
 returns : tie.Need-returns
 unfolding sizes ones
-returns c = size-of (c .args .byte) (c .pre)
+returns c =
+    let s = c .before in
+    let same = c .wide .ensures ∙ size-of (s .args .byte) (s .pre) in
+    record { same = same; few = size-le 8 (s .pre) same }
 
 pub size-of-byte-spec : {M : Type 1} → statement M
-size-of-byte-spec = tie.close (tie.spec array-read-result cast-result returns)
+size-of-byte-spec = tie.close (tie.spec array-read-wide wide-requires returns)

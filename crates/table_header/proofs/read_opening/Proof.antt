@@ -1,4 +1,5 @@
 use mathlib.Core.Path.{_∙_}
+use Rattle.definitions.specs.Files.{readHeader}
 use Rattle.table_header.proofs.HeaderSteps.{no-first, no-controls, behind-controls}
 use borrow.Author.Needs.{needs}
 use Rattle.table_header.proofs.read_opening.Statement.{statement}
@@ -26,17 +27,20 @@ enum-known-word-2 : tie.Need-enum-known-word-2
 enum-known-word-2 c = search needs
 
 returns : tie.Need-returns
+unfolding readHeader
 returns c =
     c .read-modulus .ensures ∙ behind-controls _ _ (c .before .before .before .before .before .before .before .before .read-number .ensures)
     (c .before .before .before .before .before .before .first .given .1) (c .before .before .before .before .controls-of .ensures)
     (c .before .before .n .given .1)
 
 returns-2 : tie.Need-returns-2
+unfolding readHeader
 returns-2 c =
     no-controls _ _ (c .before .before .before .before .before .before .before .read-number .ensures)
     (c .before .before .before .before .before .first .given .1) (c .before .before .before .controls-of .ensures) (c .before .word .given .1)
 
 returns-3 : tie.Need-returns-3
+unfolding readHeader
 returns-3 c = no-first _ _ (c .before .before .before .read-number .ensures) (c .before .word2 .given .1)
 
 pub read-opening-spec : {M : Type 1} → statement M
