@@ -5,7 +5,7 @@ use Prim.Native.Nat.{ℕ, _+_, _^_, _≤_}
 use native.Mathlib.Omega.{arith}
 use lib.ListN.{length, drop, take}
 use lib.Pow.{pow-mono}
-use lib.Seq.{take-append-seam, length-take-le}
+use lib.Seq.{length-take-le}
 use Rattle.definitions.specs.Limits.{mostShown}
 use Rattle.definitions.specs.Outcomes.{Outcome, accepted, refused, andThen, numberOf}
 use Rattle.definitions.specs.Files.{Header, readHeader, readBody}
@@ -56,11 +56,16 @@ part-long {n} {count} table few e h = length-take-le count table (omega (arith, 
 -- ---- the whole
 
 -- the text is at the start
-shows : (bytes old : List ℕ) {text last : List ℕ} {next : ℕ} → text ≡ shown bytes → Writes old 0 text next last → Shows bytes next last
+shows : (bytes old : List ℕ) {text last : List ℕ} {next : ℕ} → text ≡ shown bytes → Writes old 0 text next last → Shows bytes old next last
 shows bytes old {text} {last} {next} e w =
     let place : next ≡ length text = omega (arith, w .next-is) in
     let form : last ≡ text ++ drop (length text) old = w .text-is ∙ sets-front old text (omega (arith, w .within, writes-length w)) in
-    record { within = w .within; counted = sym (length-take-le next last (w .within)); same = rw (place, form) (take-append-seam text (drop (length text) old) ∙ e) }
+    record {
+      length-is = place ∙ ap length e;
+      whole = rw place (form ∙ ap (λ (l : List ℕ). l ++ drop (length text) old) e);
+      within = w .within;
+      counted = sym (length-take-le next last (w .within));
+    }
 
 module _ (bytes old : List ℕ) {r : _} (opened : openingOutcome bytes r ≡ readHeader mostShown bytes) where
   opened-as : (o : _) → r ≡ o → andThen (openingOutcome bytes o) readBody ≡ readShown bytes
@@ -68,7 +73,7 @@ module _ (bytes old : List ℕ) {r : _} (opened : openingOutcome bytes r ≡ rea
   opened-as o e = ap (λ (p : Outcome Header). andThen p readBody) (ap (openingOutcome bytes) (sym e) ∙ opened)
 
   pub no-header : {word next : ℕ} {last : List ℕ} → r ≡ opening.Refused word →
-      Writes old 0 (refusalText word) next last → Shows bytes next last
+      Writes old 0 (refusalText word) next last → Shows bytes old next last
   no-header e w = shows bytes old (ap textOf (opened-as (opening.Refused _) e)) w
 
   module _ {o : _} (e : r ≡ opening.Opening o) where
@@ -76,5 +81,5 @@ module _ (bytes old : List ℕ) {r : _} (opened : openingOutcome bytes r ≡ rea
     few = header-few mostShown bytes (headerAt bytes o) (sym (ap (openingOutcome bytes) (sym e) ∙ opened))
 
     pub behind-header : {next : ℕ} {last : List ℕ} →
-        Writes old 0 (textOf (readBody (headerAt bytes o))) next last → Shows bytes next last
+        Writes old 0 (textOf (readBody (headerAt bytes o))) next last → Shows bytes old next last
     behind-header w = shows bytes old (ap textOf (opened-as (opening.Opening o) e)) w

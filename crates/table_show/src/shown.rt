@@ -1,7 +1,7 @@
 // A table file of at most 8 controls as text.
 ghost use mathlib.Core.Path.{_≡_};
 ghost use Prim.Native.Nat.{_^_, _≤_};
-ghost use lib.ListN.{length};
+ghost use lib.ListN.{length, replicate};
 ghost use Rattle.definitions.specs.Limits.{mostShown};
 ghost use Rattle.definitions.specs.Show.{textOf};
 ghost use Rattle.definitions.specs.Files.{readHeader, readBody};
@@ -46,7 +46,7 @@ fn shown_opening(bytes: &[u8]) -> OpeningAnswer
 // workspace.
 fn write_shown(bytes: &[u8], table: &mut [u32], out: &mut [u8]) -> usize
     requires { ⌜ Lent (now table) (now out) ⌝ }
-    ensures { λ r. ⌜ Shows (now (bytes .entry)) r (now (out .exit)) ⌝ }
+    ensures { λ r. ⌜ Shows (now (bytes .entry)) (now (out .entry)) r (now (out .exit)) ⌝ }
 {
     match shown_opening(bytes) {
         OpeningAnswer::Opening(opening) => {
@@ -65,7 +65,7 @@ pub struct Text {
 
 // What `panelshow` prints of some bytes.
 pub fn show(bytes: &[u8]) -> Text
-    ensures { λ r. ⌜ Shows (now (bytes .entry)) (r .length) (r .bytes) ⌝ }
+    ensures { λ r. ⌜ Shows (now (bytes .entry)) (replicate longestText 0) (r .length) (r .bytes) ⌝ }
 {
     let mut table = [0u32; 256];
     let mut out = [0u8; 8470];

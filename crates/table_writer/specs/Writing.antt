@@ -9,6 +9,10 @@ use Rattle.definitions.specs.Refusals.{wordIf, after, valueAfter}
 use Rattle.definitions.specs.Files.{fileOf}
 use Rattle.table_writer.specs.declared.writer.Written.{Written}
 
+-- a refusal's answer: with its number no byte is counted
+abbrev pub refusedWith : ℕ → Written
+refusedWith k = record { number = k; count = 0 }
+
 -- no table has more entries
 abbrev pub MostEntries : ℕ → Type 0
 MostEntries k = k ≤ 2 ^ mostControls

@@ -1,6 +1,5 @@
 // The round trip of the calls: a table that is written reads back, and a file that is read is written again.
 ghost use Rattle.table_writer.specs.Trips.{WrittenThenRead, ReadThenWritten};
-use crate::writer::NO_BYTES;
 use crate::writer::Written;
 use crate::writer::write_table;
 use table_file::HeaderAnswer;
@@ -31,9 +30,6 @@ pub fn read_then_write(bytes: &[u8], table: &mut [u32], buffer: &mut [u8]) -> Wr
 {
     match read_table(bytes, table) {
         HeaderAnswer::Header(header) => write_table(header.n, header.m, table, buffer),
-        HeaderAnswer::Refused(word) => Written {
-            number: word,
-            count: NO_BYTES,
-        },
+        HeaderAnswer::Refused(word) => Written::refused(word),
     }
 }

@@ -7,19 +7,28 @@ ghost use lib.ListN.{length};
 ghost use lib.Seq.{sets};
 ghost use Rattle.definitions.specs.Groups.{groups};
 ghost use Rattle.definitions.specs.Files.{fileOf, writerNumber, writtenCount, writtenBuffer};
-ghost use Rattle.table_writer.specs.Writing.{shortWord, MostEntries, WrittenBy};
+ghost use Rattle.table_writer.specs.Writing.{refusedWith, shortWord, MostEntries, WrittenBy};
 use checks::Checked;
 use checks::check_table;
 use number_groups::number_length;
 use number_groups::write_number;
 
-// How many bytes a refused call writes.
-pub const NO_BYTES: u32 = 0;
-
 // The number of a call of the writer, and how many bytes it wrote.
 pub struct Written {
     pub number: u32,
     pub count: u32,
+}
+
+impl Written {
+    // Of a refused call: it wrote no byte.
+    pub fn refused(number: u32) -> Written
+        ensures { λ r. ⌜ r ≡ refusedWith number ⌝ }
+    {
+        Written {
+            number: number,
+            count: 0,
+        }
+    }
 }
 
 // How many bytes the file of a table has.
@@ -65,10 +74,7 @@ fn write_checked(n: u32, m: u32, table: &[u32], buffer: &mut [u8]) -> Written
 {
     let count = file_length(n, m, table);
     if buffer.len() < (count as usize) {
-        return Written {
-            number: 10,
-            count: NO_BYTES,
-        };
+        return Written::refused(10);
     }
     write_file(n, m, table, buffer);
     Written {
@@ -85,10 +91,7 @@ pub fn write_table(n: u32, m: u32, table: &[u32], buffer: &mut [u8]) -> Written
 {
     match check_table(n, m, table) {
         Checked::Accepted(_) => write_checked(n, m, table, buffer),
-        Checked::Refused(word) => Written {
-            number: word,
-            count: NO_BYTES,
-        },
+        Checked::Refused(word) => Written::refused(word),
     }
 }
 

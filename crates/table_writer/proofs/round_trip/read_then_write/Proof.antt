@@ -19,6 +19,9 @@ write-table-requires c κs = search needs
 enum-known-word : tie.Need-enum-known-word
 enum-known-word c = search needs
 
+refused-requires : tie.Need-refused-requires
+refused-requires c κs = search needs
+
 same-length : tie.Need-same-length
 same-length c = search needs
 
@@ -40,13 +43,14 @@ same-length-3 c = search needs
 
 returns-2 : tie.Need-returns-2
 returns-2 c =
-    let start = c .before .before .before .before .before .before .before .before .before .before in
-    let read-table = c .before .before .before .before .before .read-table in
-    not-read (now (start .args .bytes)) (now (start .args .table)) (now (start .args .buffer))
-    (at-below 256 (now (start .args .bytes)) (λ i h. omega (arith, c .before .before .before .before .before .before .before .before .before .shared-slice-known .given i)))
-    (subst (Answered _ _) (c .before .word .given .1) (read-table .ensures .0)) (read-table .ensures .1)
+    let start = c .before .before .before .before .before .before .before .before .before .before .before in
+    let read-table = c .before .before .before .before .before .before .read-table in
+    rw (c .refused .ensures)
+    (not-read (now (start .args .bytes)) (now (start .args .table)) (now (start .args .buffer))
+    (at-below 256 (now (start .args .bytes)) (λ i h. omega (arith, c .before .before .before .before .before .before .before .before .before .before .shared-slice-known .given i)))
+    (subst (Answered _ _) (c .before .before .word .given .1) (read-table .ensures .0)) (read-table .ensures .1))
 
 pub read-then-write-spec : {M : Type 1} → statement M
 read-then-write-spec =
     tie.close
-    (tie.spec read-table-requires enum-known-header write-table-requires enum-known-word same-length same-length-2 returns same-length-3 returns-2)
+    (tie.spec read-table-requires enum-known-header write-table-requires enum-known-word refused-requires same-length same-length-2 returns same-length-3 returns-2)

@@ -10,11 +10,15 @@ file-length-requires c κs = search needs
 cast-if1 : tie.Need-cast-if1
 cast-if1 c = search needs
 
+refused-requires : tie.Need-refused-requires
+refused-requires c κs = search needs
+
 returns : tie.Need-returns
 returns c =
-    let start = c .before .before .before .before in
-    too-short (start .args .n) (start .args .m) (now (start .args .table)) (now (start .args .buffer)) (c .before .file-length .ensures)
-    (c .if1 .taken)
+    let start = c .before .before .before .before .before in
+    rw (c .refused .ensures)
+    (too-short (start .args .n) (start .args .m) (now (start .args .table)) (now (start .args .buffer)) (c .before .before .file-length .ensures)
+    (c .before .if1 .taken))
 
 write-file-requires : tie.Need-write-file-requires
 write-file-requires c κs = search needs
@@ -32,4 +36,4 @@ returns-2 c =
 pub write-checked-spec : {M : Type 1} → statement M
 write-checked-spec =
     tie.close
-    (tie.spec file-length-requires cast-if1 returns write-file-requires same-length returns-2)
+    (tie.spec file-length-requires cast-if1 refused-requires returns write-file-requires same-length returns-2)

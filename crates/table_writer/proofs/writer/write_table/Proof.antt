@@ -19,6 +19,9 @@ write-checked-requires c κs =
 enum-known-word : tie.Need-enum-known-word
 enum-known-word c = search needs
 
+refused-requires : tie.Need-refused-requires
+refused-requires c κs = search needs
+
 same-length : tie.Need-same-length
 same-length c = search needs
 
@@ -33,11 +36,11 @@ returns c =
 
 returns-2 : tie.Need-returns-2
 returns-2 c =
-    let start = c .before .before .before .before .before .before in
+    let start = c .before .before .before .before .before .before .before in
     let w =
     as-refused (start .args .n) (start .args .m) (now (start .args .table)) (now (start .args .buffer))
-    (c .before .before .before .check-table .ensures) (c .before .word .given .1) in
-    (w .number-is, (w .count-is, w .buffer-is))
+    (c .before .before .before .before .check-table .ensures) (c .before .before .word .given .1) in
+    rw (c .refused .ensures) (w .number-is, (w .count-is, w .buffer-is))
 
 pub write-table-spec : {M : Type 1} → statement M
 write-table-spec =
@@ -47,6 +50,7 @@ write-table-spec =
     enum-told
     write-checked-requires
     enum-known-word
+    refused-requires
     same-length
     returns
     returns-2)
