@@ -9,7 +9,10 @@ mul-both : tie.Need-mul-both
 mul-both c = let p = product-below (c .pre .1 .1 .0) (c .pre .0 .largest) in record { fits = omega arith }
 
 mul-both-2 : tie.Need-mul-both-2
-mul-both-2 c = let p = product-below (c .pre .1 .1 .1) (c .pre .0 .largest) in record { fits = omega arith }
+mul-both-2 c =
+    let p = product-below (c .pre .1 .1 .0) (c .pre .0 .largest) in
+    let q = product-below (c .pre .1 .1 .1) (c .pre .0 .largest) in
+    record { fits = omega arith }
 
 add-both : tie.Need-add-both
 add-both c =
