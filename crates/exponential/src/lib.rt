@@ -4,7 +4,7 @@ ghost use Rattle.definitions.specs.Partitions.{exponentialTable};
 ghost use Rattle.residues.specs.Moduli.{Valid};
 ghost use Rattle.composition.specs.Ready.{Ready};
 ghost use Rattle.exponential.specs.Lower.{LowerDone, upperFilled};
-use composition::power;
+use pads::power_of_two;
 use ranked::lay_out_left;
 use ranked::multiply_laid;
 use residues::Modulus;
@@ -16,7 +16,7 @@ fn fill_upper(p: usize, modulus: Modulus, a: &[u32], result: &mut [u32], workspa
     requires { ⌜ LowerDone p (modulus .value) (now a) (now result) (now workspace) ⌝ }
     ensures { λ _. ⌜ now (result .exit) ≡ upperFilled p (modulus .value) (now (a .entry)) (now (result .entry)) ⌝ }
 {
-    let mid = power(p);
+    let mid = power_of_two(p);
     lay_out_left(p, &result[..mid], workspace);
     multiply_laid(p, modulus, &a[mid..], &mut result[mid..], workspace);
 }
@@ -37,7 +37,7 @@ pub fn exponential_table(
         result[0] = 1;
     } else {
         let p = q - 1;
-        let mid = power(p);
+        let mid = power_of_two(p);
         exponential_table(p, modulus, &a[..mid], &mut result[..mid], workspace);
         fill_upper(p, modulus, a, result, workspace);
     }

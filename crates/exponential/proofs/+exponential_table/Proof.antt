@@ -13,7 +13,7 @@ use Rattle.exponential.proofs.exponential_table.Reads as exponential-ta
 use Rattle.exponential.proofs.exponential_table.Kinds as exponential-table-kinds
 use Rattle.exponential.proofs.+exponential_table.Lts-exponential_table as exponential-table-lts
 use Rattle.exponential.proofs.fill_upper.Reads as fill-upper-reads
-use Rattle.composition.proofs.power.Reads as power-reads
+use Rattle.pads.proofs.power_of_two.Reads as power-of-two-reads
 use Rattle.exponential.proofs.+exponential_table.{statement}
 use Rattle.exponential.proofs.+exponential_table.Tie.{close}
 
@@ -40,7 +40,7 @@ positive : {q : ℕ} → (q ≡ 0 → ⊥) → q ≡ suc (q - 1)
 positive h = omega arith
 
 abbrev calls : ℕ → exponential-table-lts.Claims
-calls t = (power-reads.Asked, power-reads.Learnt, exponential-table-below t, exponential-table.Post, fill-upper-reads.Asked, fill-upper-reads.Learnt)
+calls t = (power-of-two-reads.Asked, power-of-two-reads.Learnt, exponential-table-below t, exponential-table.Post, fill-upper-reads.Asked, fill-upper-reads.Learnt)
 
 exponential-table-slice-write-result : (t : ℕ) → exponential-table-lts.Need-slice-write-result (calls t) (exponential-table-at t) exponential-table.Post
 exponential-table-slice-write-result t c =
@@ -51,38 +51,38 @@ exponential-table-slice-write-result t c =
 exponential-table-sub-p : (t : ℕ) → exponential-table-lts.Need-sub-p (calls t) (exponential-table-at t) exponential-table.Post
 exponential-table-sub-p t c = search needs
 
-exponential-table-power-requires : (t : ℕ) → exponential-table-lts.Need-power-requires (calls t) (exponential-table-at t) exponential-table.Post
-exponential-table-power-requires t c κs = omega (arith, c .before .before .before .before .pre .1 .1 .few)
+exponential-table-power-of-two-requires : (t : ℕ) → exponential-table-lts.Need-power-of-two-requires (calls t) (exponential-table-at t) exponential-table.Post
+exponential-table-power-of-two-requires t c κs = omega (arith, c .before .before .before .before .pre .1 .1 .few)
 
 exponential-table-slice-aggregate-exponential-table :
     (t : ℕ) → exponential-table-lts.Need-slice-aggregate-exponential-table (calls t) (exponential-table-at t) exponential-table.Post
 exponential-table-slice-aggregate-exponential-table t c =
     let s = c .before .before .before .before .before .before in
-    half-a (s .args .q - 1) (s .args .q) (s .args .modulus .value) (c .before .power .result) (now (s .args .a)) (now (s .args .result)) (now (s .args .workspace)) (positive (c .before .before .if1 .left)) (c .before .power .ensures) (s .pre .1 .1)
+    half-a (s .args .q - 1) (s .args .q) (s .args .modulus .value) (c .before .power-of-two .result) (now (s .args .a)) (now (s .args .result)) (now (s .args .workspace)) (positive (c .before .before .if1 .left)) (c .before .power-of-two .ensures) (s .pre .1 .1)
 
 exponential-table-slice-relend-prefix-exponential-table :
     (t : ℕ) → exponential-table-lts.Need-slice-relend-prefix-exponential-table (calls t) (exponential-table-at t) exponential-table.Post
 exponential-table-slice-relend-prefix-exponential-table t c =
     let s = c .before .before .before .before .before .before in
-    in-r (s .args .q - 1) (s .args .q) (s .args .modulus .value) (c .before .power .result) (now (s .args .a)) (now (s .args .result)) (now (s .args .workspace)) (positive (c .before .before .if1 .left)) (c .before .power .ensures) (s .pre .1 .1)
+    in-r (s .args .q - 1) (s .args .q) (s .args .modulus .value) (c .before .power-of-two .result) (now (s .args .a)) (now (s .args .result)) (now (s .args .workspace)) (positive (c .before .before .if1 .left)) (c .before .power-of-two .ensures) (s .pre .1 .1)
 
 exponential-table-slice-aggregate-exponential-table-2 :
     (t : ℕ) → exponential-table-lts.Need-slice-aggregate-exponential-table-2 (calls t) (exponential-table-at t) exponential-table.Post
 exponential-table-slice-aggregate-exponential-table-2 t c =
     let s = c .before .before .before .before .before .before .before in
-    half-r (s .args .q - 1) (s .args .q) (s .args .modulus .value) (c .before .before .power .result) (now (s .args .a)) (now (s .args .result)) (now (s .args .workspace)) (positive (c .before .before .before .if1 .left)) (c .before .before .power .ensures) (s .pre .1 .1)
+    half-r (s .args .q - 1) (s .args .q) (s .args .modulus .value) (c .before .before .power-of-two .result) (now (s .args .a)) (now (s .args .result)) (now (s .args .workspace)) (positive (c .before .before .before .if1 .left)) (c .before .before .power-of-two .ensures) (s .pre .1 .1)
 
 exponential-table-exponential-table-requires :
     (t : ℕ) → exponential-table-lts.Need-exponential-table-requires (calls t) (exponential-table-at t) exponential-table.Post
 exponential-table-exponential-table-requires t c κs =
     let s = c .before .before .before .before .before .before .before .before in
-    (omega (arith, s .pre .0, c .before .before .before .before .if1 .left), (s .pre .1 .0, first-ready (s .args .q - 1) (s .args .q) (s .args .modulus .value) (c .before .before .before .power .result) (now (s .args .a)) (now (s .args .result)) (now (s .args .workspace)) (positive (c .before .before .before .before .if1 .left)) (c .before .before .before .power .ensures) (s .pre .1 .1)))
+    (omega (arith, s .pre .0, c .before .before .before .before .if1 .left), (s .pre .1 .0, first-ready (s .args .q - 1) (s .args .q) (s .args .modulus .value) (c .before .before .before .power-of-two .result) (now (s .args .a)) (now (s .args .result)) (now (s .args .workspace)) (positive (c .before .before .before .before .if1 .left)) (c .before .before .before .power-of-two .ensures) (s .pre .1 .1)))
 
 exponential-table-fill-upper-requires : (t : ℕ) → exponential-table-lts.Need-fill-upper-requires (calls t) (exponential-table-at t) exponential-table.Post
 exponential-table-fill-upper-requires t c κs =
     let s = c .before .before .before .before .before .before .before .before .before .before .before .before .before .before .before in
     let rec = c .before .before .before .before .before .before .exponential-table in
-    (s .pre .1 .0, lower-done (s .args .q - 1) (s .args .q) (s .args .modulus .value) (c .before .before .before .before .before .before .before .before .before .before .power .result) (now (s .args .a)) (now (s .args .result)) (now (s .args .workspace)) (positive (c .before .before .before .before .before .before .before .before .before .before .before .if1 .left)) (c .before .before .before .before .before .before .before .before .before .before .power .ensures) (s .pre .1 .1) (rec .last .1 .1 .1 .0) (rec .last .1 .1 .1 .1 .0) (rec .kept .1 .1 .1 .0) (rec .kept .1 .1 .1 .1 .0) (rec .ensures) (s .pre .1 .0 .lowest))
+    (s .pre .1 .0, lower-done (s .args .q - 1) (s .args .q) (s .args .modulus .value) (c .before .before .before .before .before .before .before .before .before .before .power-of-two .result) (now (s .args .a)) (now (s .args .result)) (now (s .args .workspace)) (positive (c .before .before .before .before .before .before .before .before .before .before .before .if1 .left)) (c .before .before .before .before .before .before .before .before .before .before .power-of-two .ensures) (s .pre .1 .1) (rec .last .1 .1 .1 .0) (rec .last .1 .1 .1 .1 .0) (rec .kept .1 .1 .1 .0) (rec .kept .1 .1 .1 .1 .0) (rec .ensures) (s .pre .1 .0 .lowest))
 
 exponential-table-same-length : (t : ℕ) → exponential-table-lts.Need-same-length (calls t) (exponential-table-at t) exponential-table.Post
 exponential-table-same-length t c = search needs
@@ -102,7 +102,7 @@ exponential-table-returns-2 : (t : ℕ) → exponential-table-lts.Need-returns-2
 exponential-table-returns-2 t c =
     let s = c .before .before .before .before .before .before .before .before .before .before .before .before .before .before .before .before .before .before .before .before in
     let rec = c .before .before .before .before .before .before .before .before .before .before .before .exponential-table in
-    both-halves (s .args .q - 1) (s .args .q) (s .args .modulus .value) (c .before .before .before .before .before .before .before .before .before .before .before .before .before .before .before .power .result) (now (s .args .a)) (now (s .args .result)) (now (s .args .workspace)) (positive (c .before .before .before .before .before .before .before .before .before .before .before .before .before .before .before .before .if1 .left)) (c .before .before .before .before .before .before .before .before .before .before .before .before .before .before .before .power .ensures) (s .pre .1 .1) (rec .last .1 .1 .1 .0) (rec .last .1 .1 .1 .1 .0) (rec .kept .1 .1 .1 .0) (rec .kept .1 .1 .1 .1 .0) (rec .ensures) (c .before .before .before .before .fill-upper .ensures)
+    both-halves (s .args .q - 1) (s .args .q) (s .args .modulus .value) (c .before .before .before .before .before .before .before .before .before .before .before .before .before .before .before .power-of-two .result) (now (s .args .a)) (now (s .args .result)) (now (s .args .workspace)) (positive (c .before .before .before .before .before .before .before .before .before .before .before .before .before .before .before .before .if1 .left)) (c .before .before .before .before .before .before .before .before .before .before .before .before .before .before .before .power-of-two .ensures) (s .pre .1 .1) (rec .last .1 .1 .1 .0) (rec .last .1 .1 .1 .1 .0) (rec .kept .1 .1 .1 .0) (rec .kept .1 .1 .1 .1 .0) (rec .ensures) (c .before .before .before .before .fill-upper .ensures)
 
 pub +exponential-table-spec : {M : Type 1} → statement M
 +exponential-table-spec = close μ-exponential-table λ t. exponential-table-lts.spec (calls t)
@@ -110,7 +110,7 @@ pub +exponential-table-spec : {M : Type 1} → statement M
     exponential-table.Post
     (exponential-table-slice-write-result t)
     (exponential-table-sub-p t)
-    (exponential-table-power-requires t)
+    (exponential-table-power-of-two-requires t)
     (exponential-table-slice-aggregate-exponential-table t)
     (exponential-table-slice-relend-prefix-exponential-table t)
     (exponential-table-slice-aggregate-exponential-table-2 t)

@@ -4,8 +4,8 @@ use Rattle.exponential.proofs.Halves.{lower-long, lay-ready, multiply-r
 use Rattle.exponential.proofs.fill_upper.Statement.{statement}
 use Rattle.exponential.proofs.fill_upper.Tie as tie
 
-power-requires : tie.Need-power-requires
-power-requires c κs = search needs
+power-of-two-requires : tie.Need-power-of-two-requires
+power-of-two-requires c κs = search needs
 
 slice-reshare-prefix-lay-out-left : tie.Need-slice-reshare-prefix-lay-out-left
 slice-reshare-prefix-lay-out-left c = search needs
@@ -13,12 +13,12 @@ slice-reshare-prefix-lay-out-left c = search needs
 slice-aggregate-lay-out-left : tie.Need-slice-aggregate-lay-out-left
 slice-aggregate-lay-out-left c =
     let s = c .before .before .before .before .before in
-    lower-long (s .args .p) (s .args .modulus .value) (c .before .power .result) (now (s .args .a)) (now (s .args .result)) (now (s .args .workspace)) (c .before .power .ensures) (s .pre .1)
+    lower-long (s .args .p) (s .args .modulus .value) (c .before .power-of-two .result) (now (s .args .a)) (now (s .args .result)) (now (s .args .workspace)) (c .before .power-of-two .ensures) (s .pre .1)
 
 lay-out-left-requires : tie.Need-lay-out-left-requires
 lay-out-left-requires c κs =
     let s = c .before .before .before .before .before .before in
-    lay-ready (s .args .p) (s .args .modulus .value) (c .before .before .power .result) (now (s .args .a)) (now (s .args .result)) (now (s .args .workspace)) (c .before .before .power .ensures) (s .pre .1)
+    lay-ready (s .args .p) (s .args .modulus .value) (c .before .before .power-of-two .result) (now (s .args .a)) (now (s .args .result)) (now (s .args .workspace)) (c .before .before .power-of-two .ensures) (s .pre .1)
 
 mul-multiply-laid : tie.Need-mul-multiply-laid
 mul-multiply-laid c = search needs
@@ -47,7 +47,7 @@ part-multiply-laid-end-2 c = search needs
 multiply-laid-requires : tie.Need-multiply-laid-requires
 multiply-laid-requires c κs =
     let s = c .before .before .before .before .before .before .before .before .before .before .before .before in
-    let pow = c .before .before .before .before .before .before .before .before .power in
+    let pow = c .before .before .before .before .before .before .before .before .power-of-two in
     let lay = c .before .before .before .before .before .lay-out-left in
     (s .pre .0, multiply-ready (s .args .p) (s .args .modulus .value) (pow .result) (now (s .args .a)) (now (s .args .result)) (now (s .args .workspace)) (pow .ensures) (s .pre .1) _ (lay .kept .1 .1 .0) (lay .ensures))
 
@@ -60,7 +60,7 @@ same-length-2 c = search needs
 returns : tie.Need-returns
 returns c =
     let s = c .before .before .before .before .before .before .before .before .before .before .before .before .before .before .before .before .before in
-    let pow = c .before .before .before .before .before .before .before .before .before .before .before .before .before .power in
+    let pow = c .before .before .before .before .before .before .before .before .before .before .before .before .before .power-of-two in
     let lay = c .before .before .before .before .before .before .before .before .before .before .lay-out-left in
     let product = c .before .before .before .before .multiply-laid in
     upper-filled (s .args .p) (s .args .modulus .value) (pow .result) (now (s .args .a)) (now (s .args .result)) (now (s .args .workspace)) (pow .ensures) (s .pre .1) (lay .last .1 .1 .0) _ (lay .ensures) (product .ensures)
@@ -69,7 +69,7 @@ pub fill-upper-spec : {M : Type 1} → statement M
 fill-upper-spec =
     tie.close
     (tie.spec
-    power-requires
+    power-of-two-requires
     slice-reshare-prefix-lay-out-left
     slice-aggregate-lay-out-left
     lay-out-left-requires

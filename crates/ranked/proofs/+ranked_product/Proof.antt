@@ -10,7 +10,7 @@ use Rattle.ranked.proofs.ranked_product.Kinds as ranked-product-kinds
 use Rattle.ranked.proofs.+ranked_product.Lts-ranked_product as ranked-product-lts
 use Rattle.ranked_rows.proofs.add_lower.Reads as add-lower-reads
 use Rattle.ranked_rows.proofs.multiply_row.Reads as multiply-row-reads
-use Rattle.ranked_rows.proofs.power_of_two.Reads as power-of-two-reads
+use Rattle.pads.proofs.power_of_two.Reads as power-of-two-reads
 use Rattle.ranked_rows.proofs.row_width.Reads as row-width-reads
 use Rattle.ranked_rows.proofs.subtract_lower.Reads as subtract-lower-reads
 use Rattle.ranked.proofs.+ranked_product.{statement}
