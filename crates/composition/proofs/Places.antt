@@ -55,14 +55,15 @@ module _ (k i m size : ℕ) (a r w : List ℕ) (e : size ≡ 2 ^ k) (d : TurnRea
   pub next-is : i * size + size ≡ suc i * 2 ^ k
   next-is = omega (arith, slot-is)
 
-  pub slot-ready : SlotReady k m (i * size + size) (i * size + (i * size + size)) a r w
-  slot-ready = record {
+  -- either of the two tables may be multiplied
+  pub slot-ready : (source : ℕ) → i * size ≤ source → source ≤ i * size + size → SlotReady k m source (i * size + (i * size + size)) a r w
+  slot-ready source low high = record {
     few = d .few;
     entries = d .entries;
     below = d .below;
     source-in = omega (arith, slot-is, d .inside);
     target-in = omega (arith, slot-is, d .inside);
-    source-below = λ S h. rw next-is (d .next-below S h);
+    source-below = λ S h. d .both-below (source + S) (omega (arith, slot-is)) (omega (arith, slot-is));
     room = d .room;
   }
 

@@ -26,7 +26,7 @@ add-multiply-slot c =
 multiply-slot-requires : tie.Need-multiply-slot-requires
 multiply-slot-requires c κs =
     let s = c .before .before .before .before .before .before in
-    (s .pre .0, slot-ready (s .args .k) (s .args .i) (s .args .modulus .value) (c .before .before .power-of-two .result) (now (s .args .a)) (now (s .args .result)) (now (s .args .workspace)) (c .before .before .power-of-two .ensures) (s .pre .1))
+    (s .pre .0, slot-ready (s .args .k) (s .args .i) (s .args .modulus .value) (c .before .before .power-of-two .result) (now (s .args .a)) (now (s .args .result)) (now (s .args .workspace)) (c .before .before .power-of-two .ensures) (s .pre .1) _ (omega arith) (omega arith))
 
 add-copy-table : tie.Need-add-copy-table
 add-copy-table c =
