@@ -19,7 +19,7 @@ start c = c .before .before .before .before .before .before
 
 found : (c : tie.After-modulus) → let s = start c .args in
     Single (s .n) (s .m) (now (s .a)) (length (now (s .result))) (length (now (s .pad)))
-found c = started _ _ _ _ _ 0 (accepted (c .before .before .check-start .ensures) (c .modulus .given .1))
+found c = started _ _ _ _ _ _ (accepted (c .before .before .check-start .ensures) (c .modulus .given .1))
 
 lent : (c : tie.After-pad-length) → let s = start (c .before .before) .args in Lent (s .n) (c .pad-length .result) (now (s .pad))
 lent c = record { used-is = c .pad-length .ensures; room = found (c .before .before) .pad }
