@@ -9,7 +9,7 @@ ghost use Rattle.residues.specs.Moduli.{Valid, Residue};
 ghost use Rattle.sets.specs.Sizes.{ByteSizes};
 ghost use Rattle.ranked_theory.specs.Rows.{Added, Subtracted, RowStep, RowReady, RowsStep, RowsReady, backFrom, backCount, coefficient, RanksBelow, RowOfResidues, Multiplied};
 ghost use Rattle.ranked_theory.specs.Recursion.{width};
-use pads::power_of_two;
+pub use pads::power_of_two;
 use ranked_runs::add_run;
 use ranked_runs::store_pair;
 use ranked_runs::subtract_run;

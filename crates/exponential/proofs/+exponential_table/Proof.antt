@@ -12,7 +12,7 @@ use Rattle.exponential.proofs.Halves.{single, half-a, in-r, half-r, fir
 use Rattle.exponential.proofs.exponential_table.Reads as exponential-table
 use Rattle.exponential.proofs.exponential_table.Kinds as exponential-table-kinds
 use Rattle.exponential.proofs.+exponential_table.Lts-exponential_table as exponential-table-lts
-use Rattle.exponential.proofs.fill_upper.Reads as fill-upper-reads
+use Rattle.composition.proofs.multiply_slot.Reads as multiply-slot-reads
 use Rattle.pads.proofs.power_of_two.Reads as power-of-two-reads
 use Rattle.exponential.proofs.+exponential_table.{statement}
 use Rattle.exponential.proofs.+exponential_table.Tie.{close}
@@ -40,7 +40,7 @@ positive : {q : ℕ} → (q ≡ 0 → ⊥) → q ≡ suc (q - 1)
 positive h = omega arith
 
 abbrev calls : ℕ → exponential-table-lts.Claims
-calls t = (power-of-two-reads.Asked, power-of-two-reads.Learnt, exponential-table-below t, exponential-table.Post, fill-upper-reads.Asked, fill-upper-reads.Learnt)
+calls t = (power-of-two-reads.Asked, power-of-two-reads.Learnt, exponential-table-below t, exponential-table.Post, multiply-slot-reads.Asked, multiply-slot-reads.Learnt)
 
 exponential-table-slice-write-result : (t : ℕ) → exponential-table-lts.Need-slice-write-result (calls t) (exponential-table-at t) exponential-table.Post
 exponential-table-slice-write-result t c =
@@ -78,11 +78,11 @@ exponential-table-exponential-table-requires t c κs =
     let s = c .before .before .before .before .before .before .before .before in
     (omega (arith, s .pre .0, c .before .before .before .before .if1 .left), (s .pre .1 .0, first-ready (s .args .q - 1) (s .args .q) (s .args .modulus .value) (c .before .before .before .power-of-two .result) (now (s .args .a)) (now (s .args .result)) (now (s .args .workspace)) (positive (c .before .before .before .before .if1 .left)) (c .before .before .before .power-of-two .ensures) (s .pre .1 .1)))
 
-exponential-table-fill-upper-requires : (t : ℕ) → exponential-table-lts.Need-fill-upper-requires (calls t) (exponential-table-at t) exponential-table.Post
-exponential-table-fill-upper-requires t c κs =
+exponential-table-multiply-slot-requires : (t : ℕ) → exponential-table-lts.Need-multiply-slot-requires (calls t) (exponential-table-at t) exponential-table.Post
+exponential-table-multiply-slot-requires t c κs =
     let s = c .before .before .before .before .before .before .before .before .before .before .before .before .before .before .before in
     let rec = c .before .before .before .before .before .before .exponential-table in
-    (s .pre .1 .0, lower-done (s .args .q - 1) (s .args .q) (s .args .modulus .value) (c .before .before .before .before .before .before .before .before .before .before .power-of-two .result) (now (s .args .a)) (now (s .args .result)) (now (s .args .workspace)) (positive (c .before .before .before .before .before .before .before .before .before .before .before .if1 .left)) (c .before .before .before .before .before .before .before .before .before .before .power-of-two .ensures) (s .pre .1 .1) (rec .last .1 .1 .1 .0) (rec .last .1 .1 .1 .1 .0) (rec .kept .1 .1 .1 .0) (rec .kept .1 .1 .1 .1 .0) (rec .ensures) (s .pre .1 .0 .lowest))
+    (s .pre .1 .0, lower-done (s .args .q - 1) (s .args .q) (s .args .modulus .value) (c .before .before .before .before .before .before .before .before .before .before .power-of-two .result) (now (s .args .a)) (now (s .args .result)) (now (s .args .workspace)) (positive (c .before .before .before .before .before .before .before .before .before .before .before .if1 .left)) (c .before .before .before .before .before .before .before .before .before .before .power-of-two .ensures) (s .pre .1 .1) (rec .last .1 .1 .1 .0) (rec .last .1 .1 .1 .1 .0) (rec .kept .1 .1 .1 .0) (rec .kept .1 .1 .1 .1 .0) (rec .ensures) (s .pre .1 .0 .lowest) _ (omega arith))
 
 exponential-table-same-length : (t : ℕ) → exponential-table-lts.Need-same-length (calls t) (exponential-table-at t) exponential-table.Post
 exponential-table-same-length t c = search needs
@@ -102,7 +102,7 @@ exponential-table-returns-2 : (t : ℕ) → exponential-table-lts.Need-returns-2
 exponential-table-returns-2 t c =
     let s = c .before .before .before .before .before .before .before .before .before .before .before .before .before .before .before .before .before .before .before .before in
     let rec = c .before .before .before .before .before .before .before .before .before .before .before .exponential-table in
-    both-halves (s .args .q - 1) (s .args .q) (s .args .modulus .value) (c .before .before .before .before .before .before .before .before .before .before .before .before .before .before .before .power-of-two .result) (now (s .args .a)) (now (s .args .result)) (now (s .args .workspace)) (positive (c .before .before .before .before .before .before .before .before .before .before .before .before .before .before .before .before .if1 .left)) (c .before .before .before .before .before .before .before .before .before .before .before .before .before .before .before .power-of-two .ensures) (s .pre .1 .1) (rec .last .1 .1 .1 .0) (rec .last .1 .1 .1 .1 .0) (rec .kept .1 .1 .1 .0) (rec .kept .1 .1 .1 .1 .0) (rec .ensures) (c .before .before .before .before .fill-upper .ensures)
+    both-halves (s .args .q - 1) (s .args .q) (s .args .modulus .value) (c .before .before .before .before .before .before .before .before .before .before .before .before .before .before .before .power-of-two .result) (now (s .args .a)) (now (s .args .result)) (now (s .args .workspace)) (positive (c .before .before .before .before .before .before .before .before .before .before .before .before .before .before .before .before .if1 .left)) (c .before .before .before .before .before .before .before .before .before .before .before .before .before .before .before .power-of-two .ensures) (s .pre .1 .1) (rec .last .1 .1 .1 .0) (rec .last .1 .1 .1 .1 .0) (rec .kept .1 .1 .1 .0) (rec .kept .1 .1 .1 .1 .0) (rec .ensures) (c .before .before .before .before .multiply-slot .kept .1 .1 .1 .1 .1 .0) (c .before .before .before .before .multiply-slot .ensures)
 
 pub +exponential-table-spec : {M : Type 1} → statement M
 +exponential-table-spec = close μ-exponential-table λ t. exponential-table-lts.spec (calls t)
@@ -115,7 +115,7 @@ pub +exponential-table-spec : {M : Type 1} → statement M
     (exponential-table-slice-relend-prefix-exponential-table t)
     (exponential-table-slice-aggregate-exponential-table-2 t)
     (exponential-table-exponential-table-requires t)
-    (exponential-table-fill-upper-requires t)
+    (exponential-table-multiply-slot-requires t)
     (exponential-table-same-length t)
     (exponential-table-returns t)
     (exponential-table-same-length-2 t)
