@@ -1,12 +1,10 @@
 -- What an accepted call of the subset product hands to the recursion.
-use mathlib.Core.Path.{sym, subst}
 use mathlib.Core.List.{List}
-use Prim.Native.Nat.{ℕ, _*_, _^_, _≤_, _<_}
+use Prim.Native.Nat.{ℕ, _*_, _^_, _≤_}
 use native.Mathlib.Omega.{arith}
 use native.Mathlib.Nat.{le-refl}
 use lib.ListN.{length, take}
 use Rattle.definitions.specs.Limits.{padLength}
-use Rattle.definitions.specs.Sums.{at}
 use Rattle.residues.specs.declared.Modulus.{Modulus}
 use Rattle.checks.specs.Accepted.{Product}
 use Rattle.checks.specs.Answers.{Stands}
