@@ -13,7 +13,7 @@ use Rattle.ranked_theory.specs.Recursion.{LaidLeft, FactorsReady, ProductOfLaid
 use Rattle.composition.specs.Slots.{tableAt, SlotReady, SlotMultiplied, CopyReady, Copied, TurnReady, Turned}
 use Rattle.composition.proofs.Parts.{at-part, put-at, put-before, put-after}
 
-module _ (k m size source target : ℕ) (a r w : List ℕ) (e : size ≡ 2 ^ k) (d : SlotReady k m source target a r w) where
+module _ {k m size source target : ℕ} {a r w : List ℕ} (e : size ≡ 2 ^ k) (d : SlotReady k m source target a r w) where
   -- size numbers from x on
   many : (x : ℕ) → x + size - x ≡ 2 ^ k
   many x = omega arith
@@ -48,7 +48,7 @@ module _ (k m size source target : ℕ) (a r w : List ℕ) (e : size ≡ 2 ^ k) 
 
 -- ---- slot i of 2 ^ k numbers, at the code's i * size
 
-module _ (k i m size : ℕ) (a r w : List ℕ) (e : size ≡ 2 ^ k) (d : TurnReady k i m a r w) where
+module _ {k i m size : ℕ} {a r w : List ℕ} (e : size ≡ 2 ^ k) (d : TurnReady k i m a r w) where
   pub slot-is : i * size ≡ i * 2 ^ k
   slot-is = ap (λ (n : ℕ). i * n) e
 

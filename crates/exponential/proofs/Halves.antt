@@ -19,14 +19,14 @@ use Rattle.composition.specs.Slots.{tableAt, SlotReady, SlotMultiplied}
 use Rattle.composition.proofs.Parts.{part-behind}
 
 -- one entry
-pub single : (q m : ℕ) (a r w : List ℕ) → q ≡ 0 → 1 < m → Ready q m a r w → set r 0 1 ≡ exponentialTable q m a
-single q m a r w z two d =
+pub single : {q m : ℕ} {a r w : List ℕ} → q ≡ 0 → 1 < m → Ready q m a r w → set r 0 1 ≡ exponentialTable q m a
+single {q} {m} {a} {r} z two d =
     let one : length r ≡ 1 = d .as-long ∙ ap (λ (k : ℕ). 2 ^ k) z in
     rw z (residues-of 0 m (set r 0 1) _ (length-set r 0 1 ∙ one) (λ S h.
     let o : S ≡ 0 = lt-one h in
     rw o (getD-set-same r 0 1 0 (omega arith) ∙ sym (ap (λ (k : ℕ). k % m) (composition-empty 0 allOnes (at a)) ∙ mod-eq-of-lt two))))
 
-module _ (p q m mid : ℕ) (a r w : List ℕ) (back : q ≡ suc p) (e : mid ≡ 2 ^ p) (d : Ready q m a r w) where
+module _ {p q m mid : ℕ} {a r w : List ℕ} (back : q ≡ suc p) (e : mid ≡ 2 ^ p) (d : Ready q m a r w) where
   two : 2 ^ q ≡ mid + mid
   two = ap (λ (k : ℕ). 2 ^ k) back ∙ omega arith
 
@@ -48,11 +48,10 @@ module _ (p q m mid : ℕ) (a r w : List ℕ) (back : q ≡ suc p) (e : mid ≡ 
     room = omega (arith, d .room, rows-mono p q (omega arith));
   }
 
-  module _ (lower w′ : List ℕ) (same-r : length lower ≡ length (take mid r)) (same-w : length w′ ≡ length w)
-      (done : lower ≡ exponentialTable p m (take mid a)) where
+  module _ {lower : List ℕ} (same-r : length lower ≡ length (take mid r)) (done : lower ≡ exponentialTable p m (take mid a)) where
     -- what is multiplied, into the upper half or below it
-    pub lower-done : 1 < m → (target : ℕ) → target ≤ mid → SlotReady p m 0 target a (lower ++ drop mid r) w′
-    lower-done pos target fits =
+    pub lower-done : 1 < m → (w′ : List ℕ) → length w′ ≡ length w → (target : ℕ) → target ≤ mid → SlotReady p m 0 target a (lower ++ drop mid r) w′
+    lower-done pos w′ same-w target fits =
         let long = length-front r lower mid same-r ∙ d .as-long in
         record {
           few = omega (arith, d .few);

@@ -58,31 +58,33 @@ exponential-table-slice-aggregate-exponential-table :
     (t : ℕ) → exponential-table-lts.Need-slice-aggregate-exponential-table (calls t) (exponential-table-at t) exponential-table.Post
 exponential-table-slice-aggregate-exponential-table t c =
     let s = c .before .before .before .before .before .before in
-    half-a (s .args .q - 1) (s .args .q) (s .args .modulus .value) (c .before .power-of-two .result) (now (s .args .a)) (now (s .args .result)) (now (s .args .workspace)) (positive (c .before .before .if1 .left)) (c .before .power-of-two .ensures) (s .pre .1 .1)
+    half-a (positive (c .before .before .if1 .left)) (c .before .power-of-two .ensures) (s .pre .1 .1)
 
 exponential-table-slice-relend-prefix-exponential-table :
     (t : ℕ) → exponential-table-lts.Need-slice-relend-prefix-exponential-table (calls t) (exponential-table-at t) exponential-table.Post
 exponential-table-slice-relend-prefix-exponential-table t c =
     let s = c .before .before .before .before .before .before in
-    in-r (s .args .q - 1) (s .args .q) (s .args .modulus .value) (c .before .power-of-two .result) (now (s .args .a)) (now (s .args .result)) (now (s .args .workspace)) (positive (c .before .before .if1 .left)) (c .before .power-of-two .ensures) (s .pre .1 .1)
+    in-r (positive (c .before .before .if1 .left)) (c .before .power-of-two .ensures) (s .pre .1 .1)
 
 exponential-table-slice-aggregate-exponential-table-2 :
     (t : ℕ) → exponential-table-lts.Need-slice-aggregate-exponential-table-2 (calls t) (exponential-table-at t) exponential-table.Post
 exponential-table-slice-aggregate-exponential-table-2 t c =
     let s = c .before .before .before .before .before .before .before in
-    half-r (s .args .q - 1) (s .args .q) (s .args .modulus .value) (c .before .before .power-of-two .result) (now (s .args .a)) (now (s .args .result)) (now (s .args .workspace)) (positive (c .before .before .before .if1 .left)) (c .before .before .power-of-two .ensures) (s .pre .1 .1)
+    half-r (positive (c .before .before .before .if1 .left)) (c .before .before .power-of-two .ensures) (s .pre .1 .1)
 
 exponential-table-exponential-table-requires :
     (t : ℕ) → exponential-table-lts.Need-exponential-table-requires (calls t) (exponential-table-at t) exponential-table.Post
 exponential-table-exponential-table-requires t c κs =
     let s = c .before .before .before .before .before .before .before .before in
-    (omega (arith, s .pre .0, c .before .before .before .before .if1 .left), (s .pre .1 .0, first-ready (s .args .q - 1) (s .args .q) (s .args .modulus .value) (c .before .before .before .power-of-two .result) (now (s .args .a)) (now (s .args .result)) (now (s .args .workspace)) (positive (c .before .before .before .before .if1 .left)) (c .before .before .before .power-of-two .ensures) (s .pre .1 .1)))
+    (omega (arith, s .pre .0, c .before .before .before .before .if1 .left), (s .pre .1 .0, first-ready (positive (c .before .before .before .before .if1 .left)) (c .before .before .before .power-of-two .ensures) (s .pre .1 .1)))
 
 exponential-table-multiply-slot-requires : (t : ℕ) → exponential-table-lts.Need-multiply-slot-requires (calls t) (exponential-table-at t) exponential-table.Post
 exponential-table-multiply-slot-requires t c κs =
     let s = c .before .before .before .before .before .before .before .before .before .before .before .before .before .before .before in
     let rec = c .before .before .before .before .before .before .exponential-table in
-    (s .pre .1 .0, lower-done (s .args .q - 1) (s .args .q) (s .args .modulus .value) (c .before .before .before .before .before .before .before .before .before .before .power-of-two .result) (now (s .args .a)) (now (s .args .result)) (now (s .args .workspace)) (positive (c .before .before .before .before .before .before .before .before .before .before .before .if1 .left)) (c .before .before .before .before .before .before .before .before .before .before .power-of-two .ensures) (s .pre .1 .1) (rec .last .1 .1 .1 .0) (rec .last .1 .1 .1 .1 .0) (rec .kept .1 .1 .1 .0) (rec .kept .1 .1 .1 .1 .0) (rec .ensures) (s .pre .1 .0 .lowest) _ (omega arith))
+    let power = c .before .before .before .before .before .before .before .before .before .before in
+    let q = positive (power .before .if1 .left) in
+    (s .pre .1 .0, lower-done q (power .power-of-two .ensures) (s .pre .1 .1) (rec .kept .1 .1 .1 .0) (rec .ensures) (s .pre .1 .0 .lowest) _ (rec .kept .1 .1 .1 .1 .0) _ (omega arith))
 
 exponential-table-same-length : (t : ℕ) → exponential-table-lts.Need-same-length (calls t) (exponential-table-at t) exponential-table.Post
 exponential-table-same-length t c = search needs
@@ -90,7 +92,7 @@ exponential-table-same-length t c = search needs
 exponential-table-returns : (t : ℕ) → exponential-table-lts.Need-returns (calls t) (exponential-table-at t) exponential-table.Post
 exponential-table-returns t c =
     let s = c .before .before .before .before in
-    single (s .args .q) (s .args .modulus .value) (now (s .args .a)) (now (s .args .result)) (now (s .args .workspace)) (c .if1 .taken) (s .pre .1 .0 .lowest) (s .pre .1 .1)
+    single (c .if1 .taken) (s .pre .1 .0 .lowest) (s .pre .1 .1)
 
 exponential-table-same-length-2 : (t : ℕ) → exponential-table-lts.Need-same-length-2 (calls t) (exponential-table-at t) exponential-table.Post
 exponential-table-same-length-2 t c = search needs
@@ -102,7 +104,9 @@ exponential-table-returns-2 : (t : ℕ) → exponential-table-lts.Need-returns-2
 exponential-table-returns-2 t c =
     let s = c .before .before .before .before .before .before .before .before .before .before .before .before .before .before .before .before .before .before .before .before in
     let rec = c .before .before .before .before .before .before .before .before .before .before .before .exponential-table in
-    both-halves (s .args .q - 1) (s .args .q) (s .args .modulus .value) (c .before .before .before .before .before .before .before .before .before .before .before .before .before .before .before .power-of-two .result) (now (s .args .a)) (now (s .args .result)) (now (s .args .workspace)) (positive (c .before .before .before .before .before .before .before .before .before .before .before .before .before .before .before .before .if1 .left)) (c .before .before .before .before .before .before .before .before .before .before .before .before .before .before .before .power-of-two .ensures) (s .pre .1 .1) (rec .last .1 .1 .1 .0) (rec .last .1 .1 .1 .1 .0) (rec .kept .1 .1 .1 .0) (rec .kept .1 .1 .1 .1 .0) (rec .ensures) (c .before .before .before .before .multiply-slot .kept .1 .1 .1 .1 .1 .0) (c .before .before .before .before .multiply-slot .ensures)
+    let power = c .before .before .before .before .before .before .before .before .before .before .before .before .before .before .before in
+    let made = c .before .before .before .before .multiply-slot in
+    both-halves (positive (power .before .if1 .left)) (power .power-of-two .ensures) (s .pre .1 .1) (rec .kept .1 .1 .1 .0) (rec .ensures) (made .kept .1 .1 .1 .1 .1 .0) (made .ensures)
 
 pub +exponential-table-spec : {M : Type 1} → statement M
 +exponential-table-spec = close μ-exponential-table λ t. exponential-table-lts.spec (calls t)

@@ -26,8 +26,20 @@ abbrev ranked-product-below : ℕ → In 2 ranked-product-kinds.ps
 ranked-product-below t = and 2 ranked-product-kinds.ps (falls 2 ranked-product-kinds.ps _<_ μ-ranked-product t) ranked-product.Pre
 
 abbrev calls : ℕ → ranked-product-lts.Claims
-calls t =
-    (multiply-row-reads.Asked, multiply-row-reads.Learnt, row-width-reads.Asked, row-width-reads.Learnt, power-of-two-reads.Asked, power-of-two-reads.Learnt, add-lower-reads.Asked, add-lower-reads.Learnt, ranked-product-below t, ranked-product.Post, subtract-lower-reads.Asked, subtract-lower-reads.Learnt)
+calls t = (
+  multiply-row-reads.Asked,
+  multiply-row-reads.Learnt,
+  row-width-reads.Asked,
+  row-width-reads.Learnt,
+  power-of-two-reads.Asked,
+  power-of-two-reads.Learnt,
+  add-lower-reads.Asked,
+  add-lower-reads.Learnt,
+  ranked-product-below t,
+  ranked-product.Post,
+  subtract-lower-reads.Asked,
+  subtract-lower-reads.Learnt,
+)
 
 -- the level, once its widths are known
 level : (t : ℕ) (c : ranked-product-lts.After-power-of-two (calls t) (ranked-product-at t) ranked-product.Post)
@@ -82,8 +94,12 @@ ranked-product-part-ranked-product-end t c = search needs
 
 ranked-product-ranked-product-requires-2 : (t : ℕ) → ranked-product-lts.Need-ranked-product-requires-2 (calls t) (ranked-product-at t) ranked-product.Post
 ranked-product-ranked-product-requires-2 t c κs =
-    let s = c .before .before .before .before .before .before .before .before .before .before .before .before .before .before in
-    (omega (arith, s .pre .0, c .before .before .before .before .before .before .before .before .before .before .before .before .if1 .left), (s .pre .1 .0, (s .pre .1 .1 .0, turns.lent-ready _ _ _ _ _ _ _ _ (level t (c .before .before .before .before .before .before .before .before .before .before)) _ (c .before .before .before .before .before .before .before .before .add-lower .ensures) (c .before .before .before .before .before .before .before .before .add-lower .kept .1 .1 .1 .1 .0) (c .before .before .before .before .ranked-product .last .1 .1 .1 .1 .1 .0) (c .before .before .before .before .ranked-product .kept .1 .1 .1 .1 .1 .0) _ (omega arith))))
+    let first = c .before .before .before .before in
+    let down = first .before .before .before .before in
+    let s = down .before .before .before .before .before .before in
+    let ready = turns.lent-ready _ _ _ _ _ _ _ _ (level t (down .before .before)) _ (down .add-lower .ensures) (down .add-lower .kept .1 .1 .1 .1 .0)
+    (first .ranked-product .last .1 .1 .1 .1 .1 .0) (first .ranked-product .kept .1 .1 .1 .1 .1 .0) in
+    (omega (arith, s .pre .0, down .before .before .before .before .if1 .left), (s .pre .1 .0, (s .pre .1 .1 .0, ready _ (omega arith))))
 
 ranked-product-sub-t23 : (t : ℕ) → ranked-product-lts.Need-sub-t23 (calls t) (ranked-product-at t) ranked-product.Post
 ranked-product-sub-t23 t c = search needs
@@ -93,8 +109,19 @@ ranked-product-sub-t21 t c = search needs
 
 ranked-product-subtract-lower-requires : (t : ℕ) → ranked-product-lts.Need-subtract-lower-requires (calls t) (ranked-product-at t) ranked-product.Post
 ranked-product-subtract-lower-requires t c κs =
-    let s = c .before .before .before .before .before .before .before .before .before .before .before .before .before .before .before .before .before .before .before in
-    (s .pre .1 .0, (s .pre .1 .1 .0, (turns.back-ready _ _ _ _ _ _ _ _ (level t (c .before .before .before .before .before .before .before .before .before .before .before .before .before .before .before)) _ (c .before .before .before .before .before .before .before .before .before .before .before .before .before .add-lower .ensures) (c .before .before .before .before .before .before .before .before .before .before .before .before .before .add-lower .kept .1 .1 .1 .1 .0) _ (c .before .before .before .before .before .before .before .before .before .ranked-product .kept .1 .1 .1 .1 .1 .0) (c .before .before .before .before .before .before .before .before .before .ranked-product .ensures) (c .before .before .before .before .ranked-product2 .last .1 .1 .1 .1 .1 .0) (c .before .before .before .before .ranked-product2 .kept .1 .1 .1 .1 .1 .0) (λ u r lu lr h. c .before .before .before .before .ranked-product2 .ensures .below u r lu lr (omega arith)), omega (arith, s .pre .1 .1 .1 .room, s .pre .1 .1 .1 .few))))
+    let second = c .before .before .before .before in
+    let first = second .before .before .before .before .before in
+    let down = first .before .before .before .before in
+    let s = down .before .before .before .before .before .before in
+    let ready = turns.back-ready _ _ _ _ _ _ _ _ (level t (down .before .before)) _ (down .add-lower .ensures) (down .add-lower .kept .1 .1 .1 .1 .0)
+    _ (first .ranked-product .kept .1 .1 .1 .1 .1 .0) (first .ranked-product .ensures)
+    (second .ranked-product2 .last .1 .1 .1 .1 .1 .0) (second .ranked-product2 .kept .1 .1 .1 .1 .1 .0) in (
+      s .pre .1 .0,
+      (
+        s .pre .1 .1 .0,
+        (ready (λ u r lu lr h. second .ranked-product2 .ensures .below u r lu lr (omega arith)), omega (arith, s .pre .1 .1 .1 .room, s .pre .1 .1 .1 .few)),
+      ),
+    )
 
 ranked-product-same-length : (t : ℕ) → ranked-product-lts.Need-same-length (calls t) (ranked-product-at t) ranked-product.Post
 ranked-product-same-length t c = search needs
@@ -108,7 +135,13 @@ ranked-product-same-length-2 : (t : ℕ) → ranked-product-lts.Need-same-length
 ranked-product-same-length-2 t c = search needs
 
 ranked-product-returns-2 : (t : ℕ) → ranked-product-lts.Need-returns-2 (calls t) (ranked-product-at t) ranked-product.Post
-ranked-product-returns-2 t c = turns.done _ _ _ _ _ _ _ _ (level t (c .before .before .before .before .before .before .before .before .before .before .before .before .before .before .before .before .before .before)) _ (c .before .before .before .before .before .before .before .before .before .before .before .before .before .before .before .before .add-lower .ensures) (c .before .before .before .before .before .before .before .before .before .before .before .before .before .before .before .before .add-lower .kept .1 .1 .1 .1 .0) _ (c .before .before .before .before .before .before .before .before .before .before .before .before .ranked-product .kept .1 .1 .1 .1 .1 .0) (c .before .before .before .before .before .before .before .before .before .before .before .before .ranked-product .ensures) _ (c .before .before .before .before .before .before .before .ranked-product2 .kept .1 .1 .1 .1 .1 .0) (c .before .before .before .before .before .before .before .ranked-product2 .ensures) _ (c .before .before .subtract-lower .ensures)
+ranked-product-returns-2 t c =
+    let second = c .before .before .before .before .before .before .before in
+    let first = second .before .before .before .before .before in
+    let down = first .before .before .before .before in
+    turns.done _ _ _ _ _ _ _ _ (level t (down .before .before)) _ (down .add-lower .ensures) (down .add-lower .kept .1 .1 .1 .1 .0)
+    _ (first .ranked-product .kept .1 .1 .1 .1 .1 .0) (first .ranked-product .ensures)
+    _ (second .ranked-product2 .kept .1 .1 .1 .1 .1 .0) (second .ranked-product2 .ensures) _ (c .before .before .subtract-lower .ensures)
 
 pub +ranked-product-spec : {M : Type 1} → statement M
 +ranked-product-spec = close μ-ranked-product λ t. ranked-product-lts.spec (calls t) (ranked-product-at t) ranked-product.Post
