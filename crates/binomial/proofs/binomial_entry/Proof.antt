@@ -59,7 +59,7 @@ add-product-requires c κs =
       s .pre .0 .valid,
       (
         at .loop .inv .1 .sound,
-        record { first = s .pre .1 .0 .below (at .loop .j); second = c .before .multiply .ensures .below },
+        record { first = s .pre .1 .0 .below _; second = c .before .multiply .ensures .below },
       ),
     )
 

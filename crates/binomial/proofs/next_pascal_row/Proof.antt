@@ -30,16 +30,15 @@ element-copy-out-here c = search needs
 
 add-requires : tie.Need-add-requires Inv-loop μ-loop
 add-requires c κs =
-    let at = c .before .before in
-    let s = at .before in
+    let head = c .before .before in
+    let s = head .before in
+    let m = s .args .modulus .value in
     let row = s .pre .1 in
-    let h : at .loop .j < length (now (s .args .row)) = omega (arith, row .size) in (
-      s .pre .0,
-      record {
-        first = rw (at-filled _ _ _ (at .loop .inv .1) h) (row .below (at .loop .j));
-        second = rw (at .loop .inv .2) (left-below (now (s .args .row)) (omega (arith, s .pre .0 .lowest)) (row .below) (at .loop .j));
-      },
-    )
+    let h : head .loop .j < length (now (s .args .row)) = omega (arith, row .size) in
+    let here : at (head .loop .row) (head .loop .j) < m = rw (at-filled _ _ _ (head .loop .inv .1) h) (row .below (head .loop .j)) in
+    let left : head .loop .left < m =
+    rw (head .loop .inv .2) (left-below (now (s .args .row)) (omega (arith, s .pre .0 .lowest)) (row .below) (head .loop .j)) in
+    (s .pre .0, record { first = search needs; second = search needs })
 
 mul-row : tie.Need-mul-row Inv-loop μ-loop
 mul-row c = search needs

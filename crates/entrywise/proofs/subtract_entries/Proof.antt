@@ -35,7 +35,9 @@ subtract-requires : tie.Need-subtract-requires Inv-loop μ-loop
 subtract-requires c κs =
     let at = c .before .before .before in
     let s = at .before .before .before .before in
-    (s .pre .valid, record { first = s .pre .first .below (at .loop .i); second = s .pre .second .below (at .loop .i) })
+    let a = s .pre .first .below (at .loop .i) in
+    let b = s .pre .second .below (at .loop .i) in
+    (s .pre .valid, record { first = search needs; second = search needs })
 
 mul-result : tie.Need-mul-result Inv-loop μ-loop
 mul-result c = search needs
