@@ -11,7 +11,7 @@ use borrow.Author.Tests.{eqb-true, eq-eqb, not-false, ltb-false, le-ltb}
 use Rattle.definitions.specs.Limits.{mostControls, lowestModulus, largestModulus, padLength}
 use Rattle.definitions.specs.Sums.{at}
 use Rattle.definitions.specs.Partitions.{allBelow, allOnes}
-use Rattle.definitions.specs.Refusals.{wordIf, orElse, firstWord, panelWord, modulusWord, tableWord, rowWord, padWord, entryWord, startWord, AcceptedTable, AcceptedRow, sumNumber, binomialNumber, productNumber, singleNumber, exponentialNumber, logarithmNumber, compositionNumber}
+use Rattle.definitions.specs.Refusals.{wordIf, orElse, firstWord, panelWord, modulusWord, tableWord, rowWord, padWord, entryWord, startWord, AcceptedTable, AcceptedRow, sumNumber, binomialNumber, productNumber, singleNumber, compositionNumber}
 use Rattle.theory.specs.Lists.{length-tabulate, at-tabulate}
 use Rattle.theory.specs.Entries.{below-anywhere, at-below}
 use Rattle.theory.specs.Tables.{onesRow}
@@ -64,9 +64,6 @@ length-right long k e = simp (eq-eqb k long e)
 
 pub long-pad : (n k : ℕ) → padWord n k ≡ 0 → padLength n ≤ k
 long-pad n k e = ltb-false k (padLength n) (no-word (ltb k (padLength n)) 4 (λ z. omega arith) e)
-
-pub pad-long : (n k : ℕ) → padLength n ≤ k → padWord n k ≡ 0
-pad-long n k h = simp (le-ltb k (padLength n) h)
 
 pub right-start : (first : ℕ) (a : List ℕ) → startWord first a ≡ 0 → at a 0 ≡ first
 right-start first a e =
@@ -189,14 +186,6 @@ module _ (n m : ℕ) (a : List ℕ) (r p : ℕ) where
   -- with a first entry: exponential (0) and logarithm (1)
   abbrev pub startNumber : ℕ → ℕ
   startNumber first = orElse (singleNumber n m a r p) (startWord first a)
-
-  pub exponential-number : exponentialNumber n m a r p ≡ startNumber 0
-  unfolding exponentialNumber
-  exponential-number = refl
-
-  pub logarithm-number : logarithmNumber n m a r p ≡ startNumber 1
-  unfolding logarithmNumber
-  logarithm-number = refl
 
 -- ---- a table, a row, a result and a workspace: composition
 

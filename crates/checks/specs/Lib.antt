@@ -1,3 +1,4 @@
 pub mod Words
 pub mod Accepted
 pub mod Answers
+pub mod Ends

@@ -1,6 +1,7 @@
 -- The levels of a composition: the row itself, one level from the next, and the last.
 use mathlib.Core.Path.{_≡_, refl, sym, ap, subst, _∙_, fun-ext}
 use mathlib.Core.List.{List}
+use mathlib.Core.Logic.{⊎-elim}
 use Prim.Native.Nat.{ℕ, zero, suc, _+_, _-_, _*_, _%_, _^_, _<_, _≤_}
 use native.Mathlib.Nat.{mod-lt, mod-eq-of-lt, mul-le-mul-right, pow-suc, add-zero, zero-add}
 use native.Mathlib.Numerals.{add-one}
@@ -10,6 +11,7 @@ use lib.ListN.{length, drop, List·getD-append}
 use lib.Pow.{pow-add, pow-mono}
 use Rattle.definitions.specs.Sums.{tabulate, at}
 use Rattle.definitions.specs.Partitions.{compositionSum, compositionTable}
+use Rattle.theory.specs.Tests.{below-or}
 use Rattle.theory.specs.Lists.{filled, length-tabulate, at-tabulate, residues-of}
 use Rattle.theory.specs.Composition.{composition-empty}
 use Rattle.composition.specs.Ready.{Ready, RowReady, rows-mono}
@@ -53,6 +55,12 @@ module _ (n k m : ℕ) (a r₀ w₀ : List ℕ) (d : LevelReady n k m a r₀ w�
     back : i ≡ suc (i - 1)
     back = omega arith
 
+    table-below : 0 < m → (j x : ℕ) → j ≤ i → j * 2 ^ k ≤ x → x < suc j * 2 ^ k → at r x < m
+    table-below mpos j x h low high =
+        let place : x ≡ j * 2 ^ k + (x - j * 2 ^ k) = omega arith in
+        subst (λ (y : ℕ). at r y < m) (sym place)
+        (rw (o .old (d .row) (d .slots) .slot j (x - j * 2 ^ k) (omega arith) (omega arith) (omega arith)) (mod-lt _ mpos))
+
     pub turn-ready : 0 < m → TurnReady k (i - 1) m a r w
     turn-ready mpos =
         let fit : 2 * (suc (i - 1) * 2 ^ k) ≤ 2 ^ n = slots-fit n k (i - 1) (omega (arith, o .left)) in
@@ -62,7 +70,10 @@ module _ (n k m : ℕ) (a r₀ w₀ : List ℕ) (d : LevelReady n k m a r₀ w�
           entries = omega (arith, d .long);
           below = λ S h. d .below S (omega arith);
           inside = omega (arith, o .same, d .as-long);
-          next-below = λ S h. rw (o .old (d .row) (d .slots) .slot (suc (i - 1)) S (omega arith) (omega arith) h) (mod-lt _ mpos);
+          both-below = λ x l h.
+              ⊎-elim (λ (c : x < suc (i - 1) * 2 ^ k). table-below mpos (i - 1) x (omega arith) l c)
+              (λ (c : suc (i - 1) * 2 ^ k ≤ x). table-below mpos (suc (i - 1)) x (omega arith) c h)
+              (below-or x (suc (i - 1) * 2 ^ k));
           room = omega (arith, o .same-w, d .room, rows-mono k n (omega (arith, d .more)));
         }
 

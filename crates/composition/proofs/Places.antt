@@ -13,7 +13,7 @@ use Rattle.ranked_theory.specs.Recursion.{LaidLeft, FactorsReady, ProductOfLaid
 use Rattle.composition.specs.Slots.{tableAt, SlotReady, SlotMultiplied, CopyReady, Copied, TurnReady, Turned}
 use Rattle.composition.proofs.Parts.{at-part, put-at, put-before, put-after}
 
-module _ (k m size source target : ℕ) (a r w : List ℕ) (e : size ≡ 2 ^ k) (d : SlotReady k m source target a r w) where
+module _ {k m size source target : ℕ} {a r w : List ℕ} (e : size ≡ 2 ^ k) (d : SlotReady k m source target a r w) where
   -- size numbers from x on
   many : (x : ℕ) → x + size - x ≡ 2 ^ k
   many x = omega arith
@@ -48,21 +48,22 @@ module _ (k m size source target : ℕ) (a r w : List ℕ) (e : size ≡ 2 ^ k) 
 
 -- ---- slot i of 2 ^ k numbers, at the code's i * size
 
-module _ (k i m size : ℕ) (a r w : List ℕ) (e : size ≡ 2 ^ k) (d : TurnReady k i m a r w) where
+module _ {k i m size : ℕ} {a r w : List ℕ} (e : size ≡ 2 ^ k) (d : TurnReady k i m a r w) where
   pub slot-is : i * size ≡ i * 2 ^ k
   slot-is = ap (λ (n : ℕ). i * n) e
 
   pub next-is : i * size + size ≡ suc i * 2 ^ k
   next-is = omega (arith, slot-is)
 
-  pub slot-ready : SlotReady k m (i * size + size) (i * size + (i * size + size)) a r w
-  slot-ready = record {
+  -- either of the two tables may be multiplied
+  pub slot-ready : (source : ℕ) → i * size ≤ source → source ≤ i * size + size → SlotReady k m source (i * size + (i * size + size)) a r w
+  slot-ready source low high = record {
     few = d .few;
     entries = d .entries;
     below = d .below;
     source-in = omega (arith, slot-is, d .inside);
     target-in = omega (arith, slot-is, d .inside);
-    source-below = λ S h. rw next-is (d .next-below S h);
+    source-below = λ S h. d .both-below (source + S) (omega (arith, slot-is)) (omega (arith, slot-is));
     room = d .room;
   }
 

@@ -49,7 +49,7 @@ pub record TurnReady (k i m : ℕ) (a r w : List ℕ) : Type 0 where
   pub entries : 2 ^ suc k ≤ length a
   pub below : (S : ℕ) → S < 2 ^ suc k → at a S < m
   pub inside : 2 * (suc i * 2 ^ k) ≤ length r
-  pub next-below : (S : ℕ) → S < 2 ^ k → at r (suc i * 2 ^ k + S) < m
+  pub both-below : (x : ℕ) → i * 2 ^ k ≤ x → x < suc (suc i) * 2 ^ k → at r x < m
   pub room : rowsLength k ≤ length w
 
 -- s is r after the step

@@ -1,25 +1,17 @@
 // The composition of a table with a row, worked in the result and the workspace that it is lent.
 ghost use mathlib.Core.Path.{_≡_};
-ghost use Prim.Native.Nat.{_+_, _*_, _^_, _≤_};
+ghost use Prim.Native.Nat.{_≤_};
 ghost use lib.ListN.{length};
-ghost use Rattle.definitions.specs.Limits.{mostControls};
 ghost use Rattle.definitions.specs.Sums.{at};
 ghost use Rattle.definitions.specs.Partitions.{compositionTable};
 ghost use Rattle.theory.specs.Lists.{filled};
 ghost use Rattle.residues.specs.Moduli.{Valid};
 ghost use Rattle.composition.specs.Ready.{Ready, RowReady};
 ghost use Rattle.composition.specs.Slots.{CopyReady, Copied, SlotReady, SlotMultiplied, TurnReady, Turned, LevelReady, LevelRaised};
+use pads::power_of_two;
 use ranked::lay_out_left;
 use ranked::multiply_laid;
 use residues::Modulus;
-
-// How many entries a table of k controls has.
-pub fn power(k: usize) -> usize
-    requires { ⌜ k ≤ mostControls ⌝ }
-    ensures { λ r. ⌜ r ≡ 2 ^ k ⌝ }
-{
-    1 << k
-}
 
 // The table of so many numbers at one place of the result also stands at another: the same place, or one behind it.
 fn copy_table(size: usize, source: usize, target: usize, result: &mut [u32])
@@ -37,7 +29,7 @@ fn copy_table(size: usize, source: usize, target: usize, result: &mut [u32])
 
 // The product of the table of k controls at one place of the result, which is laid out first, and of a's entries with
 // control k alone of the controls from k on, into another place.
-fn multiply_slot(
+pub fn multiply_slot(
     k: usize,
     modulus: Modulus,
     source: usize,
@@ -50,7 +42,7 @@ fn multiply_slot(
     requires { ⌜ SlotReady k (modulus .value) source target (now a) (now result) (now workspace) ⌝ }
     ensures { λ _. ⌜ SlotMultiplied k (modulus .value) source target (now (a .entry)) (now (result .entry)) (now (result .exit)) ⌝ }
 {
-    let size = power(k);
+    let size = power_of_two(k);
     let source_end = source + size;
     lay_out_left(k, &result[source..source_end], workspace);
     let target_end = target + size;
@@ -78,7 +70,7 @@ fn next_table(
     requires { ⌜ TurnReady k i (modulus .value) (now a) (now result) (now workspace) ⌝ }
     ensures { λ _. ⌜ Turned k i (modulus .value) (now (a .entry)) (now (result .entry)) (now (result .exit)) ⌝ }
 {
-    let size = power(k);
+    let size = power_of_two(k);
     let slot = i * size;
     let next = slot + size;
     multiply_slot(k, modulus, next, slot + next, a, result, workspace);

@@ -5,12 +5,19 @@ ghost use lib.ListN.{length};
 ghost use Rattle.definitions.specs.Limits.{mostControls, padLength};
 ghost use Rattle.definitions.specs.Refusals.{cleared};
 
+pub fn power_of_two(k: usize) -> usize
+    requires { ⌜ k ≤ mostControls ⌝ }
+    ensures { λ r. ⌜ r ≡ 2 ^ k ⌝ }
+{
+    1 << k
+}
+
 // How many entries a table of n controls has.
 pub fn power(n: u32) -> usize
     requires { ⌜ n ≤ mostControls ⌝ }
     ensures { λ r. ⌜ r ≡ 2 ^ n ⌝ }
 {
-    1 << n
+    power_of_two(n as usize)
 }
 
 // How many entries of the workspace a call uses (01: W).

@@ -9,6 +9,7 @@ ghost use Rattle.residues.specs.Moduli.{Valid, Residue};
 ghost use Rattle.sets.specs.Sizes.{ByteSizes};
 ghost use Rattle.ranked_theory.specs.Rows.{Added, Subtracted, RowStep, RowReady, RowsStep, RowsReady, backFrom, backCount, coefficient, RanksBelow, RowOfResidues, Multiplied};
 ghost use Rattle.ranked_theory.specs.Recursion.{width};
+pub use pads::power_of_two;
 use ranked_runs::add_run;
 use ranked_runs::store_pair;
 use ranked_runs::subtract_run;
@@ -16,13 +17,6 @@ use residues::Accumulator;
 use residues::Modulus;
 use sets::SetCode;
 use sets::SetSize;
-
-pub fn power_of_two(p: usize) -> usize
-    requires { ⌜ p ≤ 16 ⌝ }
-    ensures { λ r. ⌜ r ≡ 2 ^ p ⌝ }
-{
-    1 << p
-}
 
 fn lesser(a: SetSize, b: SetSize) -> SetSize
     ensures { λ r. ⌜ r .0 ≡ min (a .0) (b .0) ⌝ }

@@ -6,7 +6,7 @@ use mathlib.Core.Path.{_≡_, sym, ap, ap₂, subst, subst₂, _∙_}
 use mathlib.Core.List.{List, _++_}
 use mathlib.Core.Logic.{⊎-elim}
 use Prim.Native.Nat.{ℕ, suc, _+_, _-_, _*_, _%_, _^_, _≤_, _<_, min}
-use native.Mathlib.Nat.{add-zero, zero-add, zero-mul, one-mul, mod-lt, mod-mod, add-mod, add-assoc, add-comm, add-mul}
+use native.Mathlib.Nat.{add-zero, zero-add, zero-mul, one-mul, mod-lt, mod-mod, add-mod, add-comm, add-mul}
 use native.Mathlib.Omega.{arith}
 use lib.Arith.{lt-one}
 use lib.ListN.{length, take, drop, length-append, length-drop, List·getD-append}
@@ -29,24 +29,12 @@ up-place p u w r = omega arith
 
 -- ---- how far the ranks past |h| go
 
-min-next : (a b s t : ℕ) → b ≡ a - 1 → t ≡ s + 1 → min a s ≤ min b t + 1
-min-next a b s t eb et = omega arith
-
-left-next : (n p d : ℕ) → n - p - (d + 1) ≡ n - p - d - 1
-left-next n p d = omega arith
-
 -- with one control more in the set, and as many or fewer above it
 reach-high : (n p d s t j : ℕ) → t ≡ s + 1 → 2 * n ≤ j + min (n - suc p - d) (t + d) → 2 * n ≤ j + min (n - p - (d + 1)) (s + (d + 1))
 reach-high n p d s t j e h =
     let q₁ : n - suc p - d ≡ n - p - (d + 1) = omega arith in
     let q₂ : t + d ≡ s + (d + 1) = omega arith in
     subst₂ (λ (a b : ℕ). 2 * n ≤ j + min a b) q₁ q₂ h
-
-reach-next : (n x y r : ℕ) → x ≤ y + 1 → 2 * n + 2 - 2 - x + 1 ≤ r → 2 * n ≤ r + y
-reach-next n x y r h l = omega arith
-
-reach-second : (n p d s r : ℕ) → backFrom (2 * n + 2) (n - p - d) (s + d) + 1 ≤ r → 2 * n ≤ r + min (n - p - (d + 1)) (s + (d + 1))
-reach-second n p d s r h = reach-next n (min (n - p - d) (s + d)) _ r (min-next (n - p - d) (n - p - (d + 1)) (s + d) (s + (d + 1)) (left-next n p d) (sym (add-assoc s d 1))) h
 
 reach-leaf : (n j x y : ℕ) → x ≡ y → 2 * n ≤ j + x → 2 * n - j < y + 1
 reach-leaf n j x y e h = omega arith
@@ -165,9 +153,8 @@ module _ (m n p d : ℕ) (pos : 0 < m) (xs : List ℕ) (ready : Ready m n (suc p
           (below-or k (size u + d + 1)))
           (below-or k (size u + 1))
 
-    -- the two halves are worked
-    module _ (l k : List ℕ) (first : Worked m n p d (take mid ys) l) (second : Worked m n p (d + 1) (drop mid ys) k)
-        (l-long : length l ≡ mid) (k-long : length k ≡ mid) where
+    -- the first half is worked
+    module _ (l k : List ℕ) (first : Worked m n p d (take mid ys) l) (l-long : length l ≡ mid) (k-long : length k ≡ mid) where
       at-low : (u r : ℕ) → u < 2 ^ p → r < w → at (l ++ k) (u * w + r) ≡ at l (u * w + r)
       at-low u r lu lr = let b = row-in u (2 ^ p) w lu in List·getD-append l k 0 (u * w + r) (omega arith)
 
@@ -178,17 +165,19 @@ module _ (m n p d : ℕ) (pos : 0 < m) (xs : List ℕ) (ready : Ready m n (suc p
       abbrev e : ℕ
       e = n - p - d
 
-      pub up-ready : RowsReady m 1 (λ u. backFrom w e (size u + d)) (λ u. backCount e (size u + d)) w p (l ++ k)
-      up-ready =
+      pub up-ready : ((u r : ℕ) → u < 2 ^ p → r < w → 2 * n < r + min e (size u + d) → at k (u * w + r) < m)
+          → RowsReady m 1 (λ u. backFrom w e (size u + d)) (λ u. backCount e (size u + d)) w p (l ++ k)
+      up-ready below =
           record {
             few = omega (arith, ready .few, ready .room);
             long = length-append l k ∙ ap₂ _+_ l-long k-long;
             row = λ u lu. omega arith;
             lower-below = λ u r lu lo hi. subst (λ (x : ℕ). x < m) (sym (at-low u r lu (omega arith))) (first .below u r lu (omega arith) (omega arith));
-            upper-below = λ u r lu lo hi. subst (λ (x : ℕ). x < m) (sym (at-high u r)) (second .below u r lu (omega arith) (reach-second n p d (size u) r lo));
+            upper-below = λ u r lu lo hi. subst (λ (x : ℕ). x < m) (sym (at-high u r)) (below u r lu (omega arith) (omega arith));
           }
 
-      module _ (zs : List ℕ) (back : RowsStep (λ u. Subtracted m w e (size u + d)) 1 w mid (2 ^ p) (l ++ k) zs) where
+      -- and the second
+      module _ (second : Worked m n p (d + 1) (drop mid ys) k) (zs : List ℕ) (back : RowsStep (λ u. Subtracted m w e (size u + d)) 1 w mid (2 ^ p) (l ++ k) zs) where
         zs-low : (u r : ℕ) → u < 2 ^ p → r < w → at zs (u * w + r) ≡ at l (u * w + r)
         zs-low u r lu lr = let b = row-in u (2 ^ p) w lu in back .lower (u * w + r) (omega arith) ∙ at-low u r lu lr
 

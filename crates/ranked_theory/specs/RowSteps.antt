@@ -29,9 +29,10 @@ module _ (op : ℕ → ℕ → ℕ) (shift w mid u a b lo count : ℕ) (xs ys : 
   run-out : (j : ℕ) → (j < mid + (u * w + (lo + shift))) ⊎ (mid + (u * w + (lo + shift + count)) ≤ j) → at ys j ≡ at xs j
   run-out j o = run .outside j (⊎-elim (λ l. inl (omega arith)) (λ l. inr (omega arith)) o)
 
-pub run-ready : (m shift lo count w mid u a b : ℕ) (xs : List ℕ) → RowReady m shift lo count w mid u xs → a ≡ u * w + lo
-    → b ≡ mid + (u * w + (lo + shift)) → RunReady m a b count xs
-run-ready m shift lo count w mid u a b xs h ea eb =
+-- a run of those places, or of some of them
+pub run-ready : (m shift low most w mid u lo count a b : ℕ) (xs : List ℕ) → RowReady m shift low most w mid u xs → a ≡ u * w + lo
+    → b ≡ mid + (u * w + (lo + shift)) → low ≤ lo → lo + count ≤ low + most → RunReady m a b count xs
+run-ready m shift low most w mid u lo count a b xs h ea eb from upto =
     record {
       apart = omega (arith, h .row, h .lower);
       long = omega (arith, h .row, h .upper);
@@ -68,33 +69,22 @@ add-row m d w mid u a b xs ys zs ready room ea eb run pair =
 
 -- ---- step (2) for one row, where t is the size of its code and k how many ranks past that are taken
 
-module _ (m d e w mid u t k : ℕ) (xs : List ℕ) (ready : RowReady m 1 (backFrom w e (size u + d)) (backCount e (size u + d)) w mid u xs)
-    (et : t ≡ size u + d) (ek : k ≡ min e t) where
-  same : k ≡ min e (size u + d)
-  same = ek ∙ ap (min e) et
-
-  pub back-ready : RowReady m 1 (w - 2 - k) (k + 1) w mid u xs
-  back-ready = subst (λ (v : ℕ). RowReady m 1 (w - 2 - v) (v + 1) w mid u xs) (sym same) ready
-
-  -- the ranks that are taken are places of the row
-  pub back-fits : k + 2 ≤ w
-  back-fits = omega (arith, back-ready .row)
-
-  pub subtract-row : (a b : ℕ) (ys : List ℕ) → a ≡ u * w + (w - 2 - k) → b ≡ mid + a + 1 → Run (minus m) a b (k + 1) xs ys
-      → RowStep (Subtracted m w e (size u + d)) 1 w mid u xs ys
-  subtract-row a b ys ea eb run =
-      let run-at = run-in (minus m) 1 w mid u a b (w - 2 - k) (k + 1) xs ys ea (omega arith) run in
-      let run-not = run-out (minus m) 1 w mid u a b (w - 2 - k) (k + 1) xs ys ea (omega arith) run in
-      let fits = back-fits in
-      let q = same in
-      record {
-        here = λ r lr.
-            record {
-              within = λ h. run-at r (omega arith) (omega arith);
-              without = λ h. run-not (mid + (u * w + r)) (inl (omega arith));
-            };
-        elsewhere = λ j o. run-not j (⊎-elim (λ l. inl (omega arith)) (λ l. inr (omega arith)) o);
-      }
+pub subtract-row : (m d e w mid u t k : ℕ) (xs : List ℕ) → RowReady m 1 (backFrom w e (size u + d)) (backCount e (size u + d)) w mid u xs → t ≡ size u + d
+    → k ≡ min e t → (a b : ℕ) (ys : List ℕ) → a ≡ u * w + (w - 2 - k) → b ≡ mid + a + 1 → Run (minus m) a b (k + 1) xs ys
+    → RowStep (Subtracted m w e (size u + d)) 1 w mid u xs ys
+subtract-row m d e w mid u t k xs ready et ek a b ys ea eb run =
+    let run-at = run-in (minus m) 1 w mid u a b (w - 2 - k) (k + 1) xs ys ea (omega arith) run in
+    let run-not = run-out (minus m) 1 w mid u a b (w - 2 - k) (k + 1) xs ys ea (omega arith) run in
+    let same : k ≡ min e (size u + d) = ek ∙ ap (min e) et in
+    let fits : k + 2 ≤ w = omega (arith, ready .row) in
+    record {
+      here = λ r lr.
+          record {
+            within = λ h. run-at r (omega arith) (omega arith);
+            without = λ h. run-not (mid + (u * w + r)) (inl (omega arith));
+          };
+      elsewhere = λ j o. run-not j (⊎-elim (λ l. inl (omega arith)) (λ l. inr (omega arith)) o);
+    }
 
 -- ---- a loop over the rows
 

@@ -15,7 +15,7 @@ use Rattle.residues.specs.Reciprocals.{IsReciprocal, IsCommonDivisor, reciproca
 use Rattle.residues.specs.declared.Modulus.{Modulus}
 use Rattle.checks.specs.Words.{orElse-stop, orElse-go}
 use Rattle.checks.specs.Accepted.{Single, single-accepted}
-use Rattle.checks.specs.Answers.{IsChecked, accepted, refused, not-accepted}
+use Rattle.checks.specs.Answers.{IsChecked, accepted, not-accepted, same-number}
 use Rattle.checks.specs.declared.Checked.{Checked}
 use Rattle.checks.specs.declared.Checked.the-variants.{Accepted, Refused}
 use Rattle.series_calls.specs.InverseTables.{inverseTable, reciprocal-is}
@@ -28,9 +28,9 @@ module _ (n m : ℕ) (a : List ℕ) (r p : ℕ) where
 
   module _ {answer : Checked} (h : IsChecked m (singleNumber n m a r p) answer) where
     -- an earlier test refuses
-    pub refused-early : {w : ℕ} → answer ≡ Refused w → w ≡ inverseNumber n m a r p
+    pub refused-early : {w : ℕ} → answer ≡ Refused w → IsChecked m (inverseNumber n m a r p) answer
     unfolding inverseNumber
-    refused-early e = refused h e ∙ sym (orElse-stop (singleNumber n m a r p) (sharedStartWord m a) (not-accepted h e))
+    refused-early e = same-number (sym (orElse-stop (singleNumber n m a r p) (sharedStartWord m a) (not-accepted h e))) h
 
     module _ {modulus : Modulus} (e : answer ≡ Accepted modulus) where
       value-is : modulus .value ≡ m
@@ -54,17 +54,15 @@ module _ (n m : ℕ) (a : List ℕ) (r p : ℕ) where
         own : IsReciprocal m (at a 0) u
         own = subst (λ (k : ℕ). IsReciprocal k (at a 0) u) value-is i
 
-        pub invertible : 0 ≡ inverseNumber n m a r p
-        invertible = sym (by-first (accepted h e) false (reciprocal-shares own))
+        -- the last test accepts too
+        pub invertible : IsChecked m (inverseNumber n m a r p) answer
+        invertible = same-number (accepted h e ∙ sym (by-first (accepted h e) false (reciprocal-shares own))) h
 
-        module _ (l : List ℕ) (w : l ≡ inverseOf n (modulus .value) u a) where
-          is-table : l ≡ inverseOf n m u a
-          is-table = w ∙ ap (λ (k : ℕ). inverseOf n k u a) value-is
+        pub inverted : {l : List ℕ} → l ≡ inverseOf n (modulus .value) u a → l ≡ inverseTable n (modulus .value) a
+        inverted made =
+            made ∙ ap (λ (v : ℕ). inverseOf n (modulus .value) v a) (sym (reciprocal-is (modulus .value) (at a 0) u (i .below) (i .one)))
 
-          pub inverted : l ≡ inverseTable n m a
-          inverted = is-table ∙ ap (λ (v : ℕ). inverseOf n m v a) (sym (reciprocal-is m (at a 0) u (own .below) (own .one)))
-
-          pub is-inverse : IsInverse n m a l
-          is-inverse =
-              let two : 2 ≤ m = checked .range .lowest in
-              rw is-table (inverse-is n m a u two (own .one ∙ sym (mod-eq-of-lt two)))
+        pub is-inverse : {l : List ℕ} → l ≡ inverseTable n m a → IsInverse n m a l
+        is-inverse made =
+            let two : 2 ≤ m = checked .range .lowest in
+            rw (made, reciprocal-is m (at a 0) u (own .below) (own .one)) (inverse-is n m a u two (own .one ∙ sym (mod-eq-of-lt two)))

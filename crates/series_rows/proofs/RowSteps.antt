@@ -1,5 +1,5 @@
 -- The row of inverses, entry after entry modulo m, and what the composition with it is.
-use mathlib.Core.Path.{_≡_, refl, sym, ap, _∙_}
+use mathlib.Core.Path.{_≡_, refl, sym, ap, subst, _∙_}
 use mathlib.Core.List.{List}
 use mathlib.Core.Logic.{⊎-elim}
 use Prim.Native.Nat.{ℕ, zero, suc, _+_, _-_, _*_, _%_, _<_, _≤_}
@@ -73,18 +73,22 @@ module _ (m u start : ℕ) where
 
 -- ---- the compositions
 
-module _ (n m u : ℕ) (f A : List ℕ) (few : n < rowSpace) where
-  pub inverse-ready : 0 < m → InverseRow m u 0 rowSpace f → RowReady n m f
-  inverse-ready pos h = record {
-    long = omega (arith, h .long);
-    below = λ k l. ap-below k (h .entries k (omega arith));
-  } where
-    ap-below : (k : ℕ) → at f (0 + k) ≡ inverseRow m u k % m → at f k < m
-    ap-below k e = rw (ap (at f) (sym (zero-add k)) ∙ e) (mod-lt _ pos)
+-- a row of residues, whatever it is the inverse of and wherever it starts
+pub row-ready : {n m u start : ℕ} {f : List ℕ} → n < rowSpace → 0 < m → InverseRow m u start rowSpace f → RowReady n m f
+row-ready {m = m} {start = start} {f = f} few pos h = record {
+  long = omega (arith, h .long);
+  below = λ k l. ⊎-elim
+      (λ (c : k < start). rw (h .before k c) pos)
+      (λ (c : start ≤ k).
+      let place : start + (k - start) ≡ k = omega arith in
+      subst (λ (j : ℕ). at f j < m) place (rw (h .entries (k - start) (omega arith)) (mod-lt _ pos)))
+      (below-or k start);
+}
 
-  pub inverse-by-row : {r : List ℕ} → r ≡ compositionTable n m f A → InverseRow m u 0 rowSpace f → r ≡ inverseOf n m u A
+module _ (n m : ℕ) (f A : List ℕ) (few : n < rowSpace) where
+  pub inverse-by-row : {u : ℕ} {r : List ℕ} → r ≡ compositionTable n m f A → InverseRow m u 0 rowSpace f → r ≡ inverseOf n m u A
   unfolding inverseOf
-  inverse-by-row e h = e ∙ residues-ext n m _ _ (composition-mod n m (at f) (inverseRow m u) (at A) (at A)
+  inverse-by-row {u} e h = e ∙ residues-ext n m _ _ (composition-mod n m (at f) (inverseRow m u) (at A) (at A)
       (λ k l. ap (λ (x : ℕ). x % m) (ap (at f) (sym (zero-add k)) ∙ h .entries k (omega arith)) ∙ mod-mod _ m) (λ S c. refl))
 
   -- 0, then the row of inverses of 1
@@ -92,9 +96,6 @@ module _ (n m u : ℕ) (f A : List ℕ) (few : n < rowSpace) where
   unfolding logarithmRow
   row-at h zero l = h .before 0 (omega arith) ∙ sym (zero-mod m)
   row-at h (suc k) l = ap (at f) (sym (one-add k)) ∙ h .entries k (omega arith)
-
-  pub logarithm-ready : 0 < m → InverseRow m 1 1 rowSpace f → RowReady n m f
-  logarithm-ready pos h = record { long = omega (arith, h .long); below = λ k l. rw (row-at h k l) (mod-lt _ pos) }
 
   pub logarithm-by-row : {r : List ℕ} → r ≡ compositionTable n m f A → InverseRow m 1 1 rowSpace f → r ≡ logarithmOf n m A
   unfolding logarithmOf

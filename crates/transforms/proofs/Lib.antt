@@ -1,2 +1,1 @@
-mod Workspace
 mod Calls

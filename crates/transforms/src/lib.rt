@@ -37,7 +37,8 @@ fn product_by(
         result,
         &mut workspace[..long],
     );
-    checks::clear(checks::pad_length(n), workspace);
+    let used = checks::pad_length(n);
+    checks::clear(used, workspace);
 }
 
 // The xor product of accepted tables, under an odd modulus: what the transform made twice multiplied by is taken out again.

@@ -5,7 +5,8 @@ use denote.Ref.{now}
 use borrow.Author.Needs.{needs}
 use Rattle.definitions.specs.Rows.{binomialRow}
 use Rattle.checks.specs.Accepted.{binomial-accepted}
-use Rattle.checks.specs.Answers.{accepted, refused, word-kept}
+use Rattle.checks.specs.Answers.{accepted}
+use Rattle.checks.specs.Ends.{refused-result}
 use Rattle.binomial.specs.Rules.{binomialAt}
 use Rattle.pointwise.specs.Pairs.{inputs, tabled}
 use Rattle.binomial.proofs.binomial_product.Statement.{statement}
@@ -47,10 +48,7 @@ returns-2 : tie.Need-returns-2
 returns-2 c =
     let at = c .before in
     let s = at .before .before .before .before .before .before .args in
-    let h = at .before .before .check-rows .ensures in (
-      refused h (at .word .given .1),
-      word-kept h (at .word .given .1) (binomialRow (s .n) (s .m) (now (s .f)) (now (s .g))) (now (s .result)),
-    )
+    refused-result (at .before .before .check-rows .ensures) (at .word .given .1) (binomialRow (s .n) (s .m) (now (s .f)) (now (s .g))) (now (s .result))
 
 pub binomial-product-spec : {M : Type 1} → statement M
 binomial-product-spec =

@@ -1,11 +1,10 @@
-use denote.Ref.{now}
 use borrow.Author.Needs.{needs}
 use Rattle.composition.proofs.Places.{factors-ready, slot-multiplied}
 use Rattle.composition.proofs.multiply_slot.Statement.{statement}
 use Rattle.composition.proofs.multiply_slot.Tie as tie
 
-power-requires : tie.Need-power-requires
-power-requires c κs = search needs
+power-of-two-requires : tie.Need-power-of-two-requires
+power-of-two-requires c κs = search needs
 
 add-source-end : tie.Need-add-source-end
 add-source-end c = search needs
@@ -59,7 +58,7 @@ multiply-laid-requires : tie.Need-multiply-laid-requires
 multiply-laid-requires c κs =
     let s = c .before .before .before .before .before .before .before .before .before .before .before .before .before in
     let lay = c .before .before .before .before .before .lay-out-left in
-    (s .pre .0, factors-ready (s .args .k) (s .args .modulus .value) (c .before .before .before .before .before .before .before .before .before .power .result) (s .args .source) (s .args .target) (now (s .args .a)) (now (s .args .result)) (now (s .args .workspace)) (c .before .before .before .before .before .before .before .before .before .power .ensures) (s .pre .1) (lay .last .1 .1 .0) (lay .kept .1 .1 .0) (lay .ensures))
+    (s .pre .0, factors-ready (c .before .before .before .before .before .before .before .before .before .power-of-two .ensures) (s .pre .1) (lay .last .1 .1 .0) (lay .kept .1 .1 .0) (lay .ensures))
 
 same-length : tie.Need-same-length
 same-length c = search needs
@@ -71,13 +70,14 @@ returns : tie.Need-returns
 returns c =
     let s = c .before .before .before .before .before .before .before .before .before .before .before .before .before .before .before .before .before .before in
     let lay = c .before .before .before .before .before .before .before .before .before .before .lay-out-left in
-    slot-multiplied (s .args .k) (s .args .modulus .value) (c .before .before .before .before .before .before .before .before .before .before .before .before .before .before .power .result) (s .args .source) (s .args .target) (now (s .args .a)) (now (s .args .result)) (now (s .args .workspace)) (c .before .before .before .before .before .before .before .before .before .before .before .before .before .before .power .ensures) (s .pre .1) (lay .last .1 .1 .0) _ (lay .ensures) (c .before .before .before .before .multiply-laid .ensures)
+    let size = c .before .before .before .before .before .before .before .before .before .before .before .before .before .before .power-of-two .ensures in
+    slot-multiplied size (s .pre .1) (lay .last .1 .1 .0) _ (lay .ensures) (c .before .before .before .before .multiply-laid .ensures)
 
 pub multiply-slot-spec : {M : Type 1} → statement M
 multiply-slot-spec =
     tie.close
     (tie.spec
-    power-requires
+    power-of-two-requires
     add-source-end
     mul-lay-out-left
     sub-lay-out-left

@@ -12,8 +12,8 @@ use Rattle.exponential.proofs.Halves.{single, half-a, in-r, half-r, fir
 use Rattle.exponential.proofs.exponential_table.Reads as exponential-table
 use Rattle.exponential.proofs.exponential_table.Kinds as exponential-table-kinds
 use Rattle.exponential.proofs.+exponential_table.Lts-exponential_table as exponential-table-lts
-use Rattle.exponential.proofs.fill_upper.Reads as fill-upper-reads
-use Rattle.composition.proofs.power.Reads as power-reads
+use Rattle.composition.proofs.multiply_slot.Reads as multiply-slot-reads
+use Rattle.pads.proofs.power_of_two.Reads as power-of-two-reads
 use Rattle.exponential.proofs.+exponential_table.{statement}
 use Rattle.exponential.proofs.+exponential_table.Tie.{close}
 
@@ -40,7 +40,7 @@ positive : {q : ℕ} → (q ≡ 0 → ⊥) → q ≡ suc (q - 1)
 positive h = omega arith
 
 abbrev calls : ℕ → exponential-table-lts.Claims
-calls t = (power-reads.Asked, power-reads.Learnt, exponential-table-below t, exponential-table.Post, fill-upper-reads.Asked, fill-upper-reads.Learnt)
+calls t = (power-of-two-reads.Asked, power-of-two-reads.Learnt, exponential-table-below t, exponential-table.Post, multiply-slot-reads.Asked, multiply-slot-reads.Learnt)
 
 exponential-table-slice-write-result : (t : ℕ) → exponential-table-lts.Need-slice-write-result (calls t) (exponential-table-at t) exponential-table.Post
 exponential-table-slice-write-result t c =
@@ -51,38 +51,40 @@ exponential-table-slice-write-result t c =
 exponential-table-sub-p : (t : ℕ) → exponential-table-lts.Need-sub-p (calls t) (exponential-table-at t) exponential-table.Post
 exponential-table-sub-p t c = search needs
 
-exponential-table-power-requires : (t : ℕ) → exponential-table-lts.Need-power-requires (calls t) (exponential-table-at t) exponential-table.Post
-exponential-table-power-requires t c κs = omega (arith, c .before .before .before .before .pre .1 .1 .few)
+exponential-table-power-of-two-requires : (t : ℕ) → exponential-table-lts.Need-power-of-two-requires (calls t) (exponential-table-at t) exponential-table.Post
+exponential-table-power-of-two-requires t c κs = omega (arith, c .before .before .before .before .pre .1 .1 .few)
 
 exponential-table-slice-aggregate-exponential-table :
     (t : ℕ) → exponential-table-lts.Need-slice-aggregate-exponential-table (calls t) (exponential-table-at t) exponential-table.Post
 exponential-table-slice-aggregate-exponential-table t c =
     let s = c .before .before .before .before .before .before in
-    half-a (s .args .q - 1) (s .args .q) (s .args .modulus .value) (c .before .power .result) (now (s .args .a)) (now (s .args .result)) (now (s .args .workspace)) (positive (c .before .before .if1 .left)) (c .before .power .ensures) (s .pre .1 .1)
+    half-a (positive (c .before .before .if1 .left)) (c .before .power-of-two .ensures) (s .pre .1 .1)
 
 exponential-table-slice-relend-prefix-exponential-table :
     (t : ℕ) → exponential-table-lts.Need-slice-relend-prefix-exponential-table (calls t) (exponential-table-at t) exponential-table.Post
 exponential-table-slice-relend-prefix-exponential-table t c =
     let s = c .before .before .before .before .before .before in
-    in-r (s .args .q - 1) (s .args .q) (s .args .modulus .value) (c .before .power .result) (now (s .args .a)) (now (s .args .result)) (now (s .args .workspace)) (positive (c .before .before .if1 .left)) (c .before .power .ensures) (s .pre .1 .1)
+    in-r (positive (c .before .before .if1 .left)) (c .before .power-of-two .ensures) (s .pre .1 .1)
 
 exponential-table-slice-aggregate-exponential-table-2 :
     (t : ℕ) → exponential-table-lts.Need-slice-aggregate-exponential-table-2 (calls t) (exponential-table-at t) exponential-table.Post
 exponential-table-slice-aggregate-exponential-table-2 t c =
     let s = c .before .before .before .before .before .before .before in
-    half-r (s .args .q - 1) (s .args .q) (s .args .modulus .value) (c .before .before .power .result) (now (s .args .a)) (now (s .args .result)) (now (s .args .workspace)) (positive (c .before .before .before .if1 .left)) (c .before .before .power .ensures) (s .pre .1 .1)
+    half-r (positive (c .before .before .before .if1 .left)) (c .before .before .power-of-two .ensures) (s .pre .1 .1)
 
 exponential-table-exponential-table-requires :
     (t : ℕ) → exponential-table-lts.Need-exponential-table-requires (calls t) (exponential-table-at t) exponential-table.Post
 exponential-table-exponential-table-requires t c κs =
     let s = c .before .before .before .before .before .before .before .before in
-    (omega (arith, s .pre .0, c .before .before .before .before .if1 .left), (s .pre .1 .0, first-ready (s .args .q - 1) (s .args .q) (s .args .modulus .value) (c .before .before .before .power .result) (now (s .args .a)) (now (s .args .result)) (now (s .args .workspace)) (positive (c .before .before .before .before .if1 .left)) (c .before .before .before .power .ensures) (s .pre .1 .1)))
+    (omega (arith, s .pre .0, c .before .before .before .before .if1 .left), (s .pre .1 .0, first-ready (positive (c .before .before .before .before .if1 .left)) (c .before .before .before .power-of-two .ensures) (s .pre .1 .1)))
 
-exponential-table-fill-upper-requires : (t : ℕ) → exponential-table-lts.Need-fill-upper-requires (calls t) (exponential-table-at t) exponential-table.Post
-exponential-table-fill-upper-requires t c κs =
+exponential-table-multiply-slot-requires : (t : ℕ) → exponential-table-lts.Need-multiply-slot-requires (calls t) (exponential-table-at t) exponential-table.Post
+exponential-table-multiply-slot-requires t c κs =
     let s = c .before .before .before .before .before .before .before .before .before .before .before .before .before .before .before in
     let rec = c .before .before .before .before .before .before .exponential-table in
-    (s .pre .1 .0, lower-done (s .args .q - 1) (s .args .q) (s .args .modulus .value) (c .before .before .before .before .before .before .before .before .before .before .power .result) (now (s .args .a)) (now (s .args .result)) (now (s .args .workspace)) (positive (c .before .before .before .before .before .before .before .before .before .before .before .if1 .left)) (c .before .before .before .before .before .before .before .before .before .before .power .ensures) (s .pre .1 .1) (rec .last .1 .1 .1 .0) (rec .last .1 .1 .1 .1 .0) (rec .kept .1 .1 .1 .0) (rec .kept .1 .1 .1 .1 .0) (rec .ensures) (s .pre .1 .0 .lowest))
+    let power = c .before .before .before .before .before .before .before .before .before .before in
+    let q = positive (power .before .if1 .left) in
+    (s .pre .1 .0, lower-done q (power .power-of-two .ensures) (s .pre .1 .1) (rec .kept .1 .1 .1 .0) (rec .ensures) (s .pre .1 .0 .lowest) _ (rec .kept .1 .1 .1 .1 .0) _ (omega arith))
 
 exponential-table-same-length : (t : ℕ) → exponential-table-lts.Need-same-length (calls t) (exponential-table-at t) exponential-table.Post
 exponential-table-same-length t c = search needs
@@ -90,7 +92,7 @@ exponential-table-same-length t c = search needs
 exponential-table-returns : (t : ℕ) → exponential-table-lts.Need-returns (calls t) (exponential-table-at t) exponential-table.Post
 exponential-table-returns t c =
     let s = c .before .before .before .before in
-    single (s .args .q) (s .args .modulus .value) (now (s .args .a)) (now (s .args .result)) (now (s .args .workspace)) (c .if1 .taken) (s .pre .1 .0 .lowest) (s .pre .1 .1)
+    single (c .if1 .taken) (s .pre .1 .0 .lowest) (s .pre .1 .1)
 
 exponential-table-same-length-2 : (t : ℕ) → exponential-table-lts.Need-same-length-2 (calls t) (exponential-table-at t) exponential-table.Post
 exponential-table-same-length-2 t c = search needs
@@ -102,7 +104,9 @@ exponential-table-returns-2 : (t : ℕ) → exponential-table-lts.Need-returns-2
 exponential-table-returns-2 t c =
     let s = c .before .before .before .before .before .before .before .before .before .before .before .before .before .before .before .before .before .before .before .before in
     let rec = c .before .before .before .before .before .before .before .before .before .before .before .exponential-table in
-    both-halves (s .args .q - 1) (s .args .q) (s .args .modulus .value) (c .before .before .before .before .before .before .before .before .before .before .before .before .before .before .before .power .result) (now (s .args .a)) (now (s .args .result)) (now (s .args .workspace)) (positive (c .before .before .before .before .before .before .before .before .before .before .before .before .before .before .before .before .if1 .left)) (c .before .before .before .before .before .before .before .before .before .before .before .before .before .before .before .power .ensures) (s .pre .1 .1) (rec .last .1 .1 .1 .0) (rec .last .1 .1 .1 .1 .0) (rec .kept .1 .1 .1 .0) (rec .kept .1 .1 .1 .1 .0) (rec .ensures) (c .before .before .before .before .fill-upper .ensures)
+    let power = c .before .before .before .before .before .before .before .before .before .before .before .before .before .before .before in
+    let made = c .before .before .before .before .multiply-slot in
+    both-halves (positive (power .before .if1 .left)) (power .power-of-two .ensures) (s .pre .1 .1) (rec .kept .1 .1 .1 .0) (rec .ensures) (made .kept .1 .1 .1 .1 .1 .0) (made .ensures)
 
 pub +exponential-table-spec : {M : Type 1} → statement M
 +exponential-table-spec = close μ-exponential-table λ t. exponential-table-lts.spec (calls t)
@@ -110,12 +114,12 @@ pub +exponential-table-spec : {M : Type 1} → statement M
     exponential-table.Post
     (exponential-table-slice-write-result t)
     (exponential-table-sub-p t)
-    (exponential-table-power-requires t)
+    (exponential-table-power-of-two-requires t)
     (exponential-table-slice-aggregate-exponential-table t)
     (exponential-table-slice-relend-prefix-exponential-table t)
     (exponential-table-slice-aggregate-exponential-table-2 t)
     (exponential-table-exponential-table-requires t)
-    (exponential-table-fill-upper-requires t)
+    (exponential-table-multiply-slot-requires t)
     (exponential-table-same-length t)
     (exponential-table-returns t)
     (exponential-table-same-length-2 t)

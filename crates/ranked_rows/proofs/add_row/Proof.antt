@@ -20,7 +20,7 @@ mul-more c = search needs
 add-run-requires : tie.Need-add-run-requires
 add-run-requires c κs =
     let s = c .before .before .before .before in
-    (s .pre .0, rows.run-ready _ 2 0 _ _ _ _ _ _ _ (s .pre .1 .0) (omega arith) (omega arith))
+    (s .pre .0, rows.run-ready _ 2 0 _ _ _ _ 0 _ _ _ _ (s .pre .1 .0) (omega arith) (omega arith) (omega arith) (omega arith))
 
 add-store-pair : tie.Need-add-store-pair
 add-store-pair c = search needs

@@ -19,11 +19,14 @@ lesser-requires c κs = search needs
 mul-first : tie.Need-mul-first
 mul-first c = search needs
 
+-- the ranks that are taken are places of the row
 sub-first : tie.Need-sub-first
-sub-first c = omega (arith, rows.back-fits _ _ _ _ _ _ _ _ _ (c .before .before .before .before .before .before .pre .1 .1 .0) (ap (λ (k : ℕ). k + c .before .before .before .before .before .before .args .d .0) (c .before .before .before .before .size-by .ensures)) (c .before .lesser .ensures))
+sub-first c = omega (arith, c .before .before .before .before .before .before .pre .1 .1 .0 .row)
 
 sub-first-2 : tie.Need-sub-first-2
-sub-first-2 c = omega (arith, rows.back-fits _ _ _ _ _ _ _ _ _ (c .before .before .before .before .before .before .before .pre .1 .1 .0) (ap (λ (k : ℕ). k + c .before .before .before .before .before .before .before .args .d .0) (c .before .before .before .before .before .size-by .ensures)) (c .before .before .lesser .ensures))
+sub-first-2 c =
+    let s = c .before .before .before .before .before .before .before in
+    omega (arith, s .pre .1 .1 .0 .row, c .before .before .before .before .before .size-by .ensures, c .before .before .lesser .ensures)
 
 add-first-2 : tie.Need-add-first-2
 add-first-2 c = search needs
@@ -40,9 +43,9 @@ add-subtract-run-3 c = search needs
 subtract-run-requires : tie.Need-subtract-run-requires
 subtract-run-requires c κs =
     let s = c .before .before .before .before .before .before .before .before .before in
-    let d = s .args .d .0 in
-    let ready = rows.back-ready _ _ _ _ _ _ _ _ _ (s .pre .1 .1 .0) (ap (λ (k : ℕ). k + d) (c .before .before .before .before .before .before .before .size-by .ensures)) (c .before .before .before .before .lesser .ensures) in
-    (s .pre .0, rows.run-ready _ 1 _ _ _ _ _ _ _ _ ready refl (omega arith))
+    let size = c .before .before .before .before .before .before .before .size-by .ensures in
+    let more = c .before .before .before .before .lesser .ensures in
+    (s .pre .0, rows.run-ready _ 1 _ _ _ _ _ _ _ _ _ _ (s .pre .1 .1 .0) refl (omega arith) (omega (arith, s .pre .1 .1 .0 .row, size, more)) (omega (arith, s .pre .1 .1 .0 .row, size, more)))
 
 same-length : tie.Need-same-length
 same-length c = search needs

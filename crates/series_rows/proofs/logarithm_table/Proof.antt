@@ -1,7 +1,7 @@
 use native.Mathlib.Omega.{arith}
 use denote.Ref.{now}
 use borrow.Author.Needs.{needs}
-use Rattle.series_rows.proofs.RowSteps.{logarithm-ready, logarithm-by-row}
+use Rattle.series_rows.proofs.RowSteps.{row-ready, logarithm-by-row}
 use Rattle.series_rows.proofs.logarithm_table.Statement.{statement}
 use Rattle.series_rows.proofs.logarithm_table.Tie as tie
 
@@ -15,7 +15,7 @@ composition-table-requires : tie.Need-composition-table-requires
 composition-table-requires c κs =
     let s = c .before .before .before .before .before .before .before in
     let row = c .before .before .before .inverse-row in
-    (s .pre .0, (s .pre .1, logarithm-ready (s .args .n) (s .args .modulus .value) 1 (row .result) (now (s .args .e)) (omega (arith, s .pre .1 .few)) (omega (arith, s .pre .0 .lowest)) (row .ensures)))
+    (s .pre .0, (s .pre .1, row-ready (omega (arith, s .pre .1 .few)) (omega (arith, s .pre .0 .lowest)) (row .ensures)))
 
 same-length : tie.Need-same-length
 same-length c = search needs
@@ -27,7 +27,7 @@ returns : tie.Need-returns
 returns c =
     let s = c .before .before .before .before .before .before .before .before .before .before .before .before in
     let row = c .before .before .before .before .before .before .before .before .inverse-row in
-    logarithm-by-row (s .args .n) (s .args .modulus .value) 1 (row .result) (now (s .args .e)) (omega (arith, s .pre .1 .few)) (c .before .before .before .before .composition-table .ensures) (row .ensures)
+    logarithm-by-row (s .args .n) (s .args .modulus .value) (row .result) (now (s .args .e)) (omega (arith, s .pre .1 .few)) (c .before .before .before .before .composition-table .ensures) (row .ensures)
 
 pub logarithm-table-spec : {M : Type 1} → statement M
 logarithm-table-spec =

@@ -1,15 +1,27 @@
-use mathlib.Core.Path.{refl, sym, ap, _∙_}
 use Prim.Native.Nat.{ℕ}
+use native.Mathlib.Nat.{le-refl}
+use native.Mathlib.Omega.{arith}
 use denote.Ref.{now}
-use Rattle.definitions.specs.Limits.{padLength}
-use Rattle.definitions.specs.Products.{subsetTable, degreeBound}
-use Rattle.definitions.specs.Refusals.{cleared}
-use Rattle.checks.specs.Accepted.{product-accepted}
-use Rattle.checks.specs.Answers.{accepted, refused, word-kept, word-value}
-use Rattle.subset_product.proofs.Ends.{used-fits, used-long, tables-ready, clear-fits, pad-cleared}
+use lib.ListN.{length}
 use borrow.Author.Needs.{needs}
+use Rattle.definitions.specs.Products.{subsetTable, degreeBound}
+use Rattle.checks.specs.Accepted.{Product, product-accepted}
+use Rattle.checks.specs.Answers.{accepted, word-value}
+use Rattle.checks.specs.Ends.{Lent, used-in, part-long, clear-fits, front-cleared, accepted-call, refused-call}
+use Rattle.subset_product.proofs.Factors.{tables-ready}
 use Rattle.subset_product.proofs.subset_product.Statement.{statement}
 use Rattle.subset_product.proofs.subset_product.Tie as tie
+
+-- where the tests have accepted: how the call started, and what they found
+abbrev start : tie.After-modulus → tie.Start
+start c = c .before .before .before .before .before .before .before
+
+found : (c : tie.After-modulus) → let s = start c .args in
+    Product (s .n) (s .m) (now (s .a)) (now (s .b)) (length (now (s .result))) (length (now (s .pad)))
+found c = product-accepted _ _ _ _ _ _ (accepted (c .before .before .check-product .ensures) (c .modulus .given .1))
+
+lent : (c : tie.After-pad-length) → let s = start (c .before .before) .args in Lent (s .n) (c .pad-length .result) (now (s .pad))
+lent c = record { used-is = c .pad-length .ensures; room = found (c .before .before) .pad }
 
 check-product-requires : tie.Need-check-product-requires
 check-product-requires c κs = search needs
@@ -18,27 +30,28 @@ enum-known-modulus : tie.Need-enum-known-modulus
 enum-known-modulus c = search needs
 
 pad-length-requires : tie.Need-pad-length-requires
-pad-length-requires c κs = product-accepted _ _ _ _ _ _ (accepted (c .before .before .before .check-product .ensures) (c .before .modulus .given .1)) .range .few
+pad-length-requires c κs = found (c .before) .range .few
 
 slice-relend-prefix-product : tie.Need-slice-relend-prefix-product
-slice-relend-prefix-product c = used-fits (c .before .before .before .before .before .before .before .before .before .before .args .pad .now) (product-accepted _ _ _ _ _ _ (accepted (c .before .before .before .before .before .check-product .ensures) (c .before .before .before .modulus .given .1))) (c .before .pad-length .ensures)
+slice-relend-prefix-product c = used-in (lent (c .before))
 
 slice-aggregate-product : tie.Need-slice-aggregate-product
-slice-aggregate-product c = sym (used-long (c .before .before .before .before .before .before .before .before .before .before .before .args .pad .now) (product-accepted _ _ _ _ _ _ (accepted (c .before .before .before .before .before .before .check-product .ensures) (c .before .before .before .before .modulus .given .1))) (c .before .before .pad-length .ensures))
+slice-aggregate-product c = part-long (lent (c .before .before)) (le-refl _)
 
 product-requires : tie.Need-product-requires
 product-requires c κs =
-    let h = c .before .before .before .before .before .before .check-product .ensures in
-    let e = c .before .before .before .before .modulus .given .1 in
-    let s = h .stands _ e in
-    (s .valid, tables-ready (c .before .before .before .before .before .before .before .before .before .before .before .args .pad .now) (product-accepted _ _ _ _ _ _ (accepted h e)) (c .before .before .pad-length .ensures) s (c .before .before .before .before .before .before .before .before .before .before .before .args .result .now) refl)
+    let at = c .before .before in
+    let s = at .before .before .before .before .check-product .ensures .stands _ (at .before .before .modulus .given .1) in
+    (s .valid, tables-ready (found (at .before .before)) (lent at) s)
 
 clear-requires : tie.Need-clear-requires
-clear-requires c κs = clear-fits (c .before .before .before .before .before .before .before .before .before .before .before .before .before .before .before .before .before .args .pad .now) (product-accepted _ _ _ _ _ _ (accepted (c .before .before .before .before .before .before .before .before .before .before .before .before .check-product .ensures) (c .before .before .before .before .before .before .before .before .before .before .modulus .given .1))) (c .before .before .before .before .before .before .before .before .pad-length .ensures) (c .before .before .before .before .before .product .last .1 .1 .1 .1 .1 .0) (c .before .before .before .before .before .product .kept .1 .1 .1 .1 .1 .0)
+clear-requires c κs =
+    let at = c .before .before .before .before .before in
+    omega (arith, clear-fits (lent (at .before .before .before)) (le-refl _) (at .product .last .1 .1 .1 .1 .1 .0) (at .product .kept .1 .1 .1 .1 .1 .0))
 
 degree-bound-requires : tie.Need-degree-bound-requires
 degree-bound-requires c κs =
-    let p = product-accepted _ _ _ _ _ _ (accepted (c .before .before .before .before .before .before .before .before .before .before .before .before .before .before .before .check-product .ensures) (c .before .before .before .before .before .before .before .before .before .before .before .before .before .modulus .given .1)) in
+    let p = found (c .before .before .before .before .before .before .before .before .before .before .before .before .before) in
     (p .range .few, p .first .size, p .second .size)
 
 enum-known-word : tie.Need-enum-known-word
@@ -52,34 +65,21 @@ same-length-2 c = search needs
 
 returns : tie.Need-returns
 returns c =
-    let a = c .before .before .before .before .before .before .before .before .before .before .before .before .before .before .before .before .before .before .before .before .before .args in
-    let h = c .before .before .before .before .before .before .before .before .before .before .before .before .before .before .before .before .check-product .ensures in
-    let e = c .before .before .before .before .before .before .before .before .before .before .before .before .before .before .modulus .given .1 in
-    let zero = accepted h e in (
-      sym zero,
-      (
-        c .degree-bound .ensures,
-        (
-          c .before .before .before .before .before .before .before .before .before .product .ensures ∙ ap (λ (k : ℕ). subsetTable (a .n) k (a .a .now) (a .b .now)) (h .stands _ e .value-is),
-          c .before .before .before .clear .ensures ∙ pad-cleared (c .before .before .before .before .before .before .before .before .before .before .before .before .before .before .before .before .before .before .before .before .before .args .pad .now) (product-accepted _ _ _ _ _ _ zero) (c .before .before .before .before .before .before .before .before .before .before .before .before .pad-length .ensures) (c .before .before .before .before .before .before .before .before .before .product .last .1 .1 .1 .1 .1 .0) (c .before .before .before .before .before .before .before .before .before .product .kept .1 .1 .1 .1 .1 .0),
-        ),
-      ),
-    )
+    let at = c .before .before .before .before .before .before .before .before .before in
+    let lending = at .before .before .before in
+    let accepting = lending .before .before in
+    let s = start accepting .args in
+    let end = accepted-call (accepting .before .before .check-product .ensures) (accepting .modulus .given .1)
+    (λ (m : ℕ). subsetTable (s .n) m (now (s .a)) (now (s .b))) (at .product .ensures)
+    _ _ (front-cleared (lent lending) (le-refl _) (at .product .last .1 .1 .1 .1 .1 .0) (at .product .kept .1 .1 .1 .1 .1 .0) (c .before .before .before .clear .ensures)) in
+    (end .0, (c .degree-bound .ensures, end .1))
 
 returns-2 : tie.Need-returns-2
 returns-2 c =
-    let a = c .before .before .before .before .before .before .before .before .args in
+    let s = c .before .before .before .before .before .before .before .before .args in
     let h = c .before .before .before .check-product .ensures in
-    let e = c .before .word .given .1 in (
-      refused h e,
-      (
-        word-value h e (degreeBound (a .n) (a .a .now) (a .b .now)),
-        (
-          word-kept h e (subsetTable (a .n) (a .m) (a .a .now) (a .b .now)) (a .result .now),
-          word-kept h e (cleared (padLength (a .n)) (a .pad .now)) (a .pad .now),
-        ),
-      ),
-    )
+    let end = refused-call h (c .before .word .given .1) (subsetTable (s .n) (s .m) (now (s .a)) (now (s .b))) (now (s .result)) (s .n) (now (s .pad)) in
+    (end .0, (word-value h (c .before .word .given .1) (degreeBound (s .n) (now (s .a)) (now (s .b))), end .1))
 
 pub subset-product-spec : {M : Type 1} → statement M
 subset-product-spec =

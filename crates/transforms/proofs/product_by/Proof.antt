@@ -1,35 +1,44 @@
-use mathlib.Core.Path.{sym, _∙_}
+use mathlib.Core.Path.{_≡_, refl, sym, _∙_}
+use Prim.Native.Nat.{ℕ, _≤_}
 use native.Mathlib.Omega.{arith}
 use denote.Ref.{now}
-use Rattle.transforms.proofs.Workspace.{table-fits, front, cleared-front}
 use borrow.Author.Needs.{needs}
+use Rattle.definitions.specs.Limits.{padLength}
+use Rattle.checks.specs.Ends.{Lent, part-long, clear-fits, front-cleared}
+use Rattle.transforms.proofs.Calls.{table-fits}
 use Rattle.transforms.proofs.product_by.Statement.{statement}
 use Rattle.transforms.proofs.product_by.Tie as tie
+
+-- the front of the workspace is lent, as long as a table
+module _ (c : tie.After-power) where
+  abbrev start : tie.Start
+  start = c .before .before .before .before .before
+
+  lent : {used : ℕ} → used ≡ padLength (start .args .n) → Lent (start .args .n) used (now (start .args .workspace))
+  lent e = record { used-is = e; room = start .pre .room }
+
+  part : {used : ℕ} → used ≡ padLength (start .args .n) → c .power .result ≤ used
+  part e = omega (arith, table-fits (start .args .n), c .power .ensures)
 
 power-requires : tie.Need-power-requires
 power-requires c κs = search needs
 
 slice-relend-prefix-convolve : tie.Need-slice-relend-prefix-convolve
-slice-relend-prefix-convolve c =
-    let first = c .before .before .before .before .before .before in
-    omega (arith, table-fits (first .args .n), first .pre .room)
+slice-relend-prefix-convolve c = omega (arith, part (c .before) refl, start (c .before) .pre .room)
 
 slice-aggregate-convolve : tie.Need-slice-aggregate-convolve
-slice-aggregate-convolve c =
-    let first = c .before .before .before .before .before .before .before in
-    sym (front (first .args .n) (now (first .args .workspace)) (c .before .before .power .ensures) (first .pre .room))
+slice-aggregate-convolve c = part-long (lent (c .before .before) refl) (part (c .before .before) refl)
 
 convolve-requires : tie.Need-convolve-requires
 convolve-requires c κs =
-    let first = c .before .before .before .before .before .before .before in
-    let inputs = first .pre in (
+    let at = c .before .before in
+    let inputs = start at .pre in (
       inputs .first,
       (
         inputs .second,
         (
           inputs .first .table .size ∙ sym (inputs .result-is),
-          inputs .second .table .size ∙ sym (c .before .before .power .ensures)
-              ∙ sym (front (first .args .n) (now (first .args .workspace)) (c .before .before .power .ensures) (inputs .room)),
+          inputs .second .table .size ∙ sym (at .power .ensures) ∙ part-long (lent at refl) (part at refl),
         ),
       ),
     )
@@ -38,7 +47,11 @@ pad-length-requires : tie.Need-pad-length-requires
 pad-length-requires c κs = search needs
 
 clear-requires : tie.Need-clear-requires
-clear-requires c κs = search needs
+clear-requires c κs =
+    let at = c .before .before .before .before .before .before in
+    let used = c .before .pad-length .ensures in
+    let lending = at .before .before .before in
+    omega (arith, part lending used, clear-fits (lent lending used) (part lending used) (at .convolve .last .1 .1 .1 .1 .1 .1 .1 .0) (at .convolve .kept .1 .1 .1 .1 .1 .1 .1 .0))
 
 same-length : tie.Need-same-length
 same-length c = search needs
@@ -48,12 +61,11 @@ same-length-2 c = search needs
 
 returns : tie.Need-returns
 returns c =
-    let first = c .before .before .before .before .before .before .before .before .before .before .before .before .before .before .before .before .before in
-    let args = first .args in
-    let worked = c .before .before .before .before .before .before .before .before .before .convolve in (
-      worked .ensures,
-      cleared-front (args .n) (now (args .workspace)) (c .before .before .before .before .before .before .before .before .before .before .before .before .power .ensures) (first .pre .room) (worked .last .1 .1 .1 .1 .1 .1 .1 .0)
-          (c .before .before .before .before .before .before .workspace .given .0) (c .before .before .clear .ensures) (c .before .before .before .before .pad-length .ensures),
+    let at = c .before .before .before .before .before .before .before .before .before in
+    let used = c .before .before .before .before .pad-length .ensures in
+    let lending = at .before .before .before in (
+      at .convolve .ensures,
+      front-cleared (lent lending used) (part lending used) (at .convolve .last .1 .1 .1 .1 .1 .1 .1 .0) (at .convolve .kept .1 .1 .1 .1 .1 .1 .1 .0) (c .before .before .clear .ensures),
     )
 
 pub product-by-spec : {M : Type 1} → statement M

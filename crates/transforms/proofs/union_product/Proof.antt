@@ -1,11 +1,9 @@
-use mathlib.Core.Path.{sym, ap, _∙_}
 use Prim.Native.Nat.{ℕ}
 use denote.Ref.{now}
-use Rattle.definitions.specs.Limits.{padLength}
 use Rattle.definitions.specs.Products.{unionTable}
-use Rattle.definitions.specs.Refusals.{cleared}
 use Rattle.checks.specs.Accepted.{product-accepted}
-use Rattle.checks.specs.Answers.{accepted, refused, word-kept}
+use Rattle.checks.specs.Answers.{accepted}
+use Rattle.checks.specs.Ends.{accepted-call, refused-call}
 use Rattle.transforms.proofs.Calls.{inputs, union-made}
 use borrow.Author.Needs.{needs}
 use Rattle.transforms.proofs.union_product.Statement.{statement}
@@ -35,31 +33,17 @@ same-length-2 c = search needs
 
 returns : tie.Need-returns
 returns c =
-    let args = c .before .before .before .before .before .before .before .before .before .before .before .before .before .before .before .args in
-    let e = c .before .before .before .before .before .before .before .before .modulus .given .1 in
-    let h = c .before .before .before .before .before .before .before .before .before .before .check-product .ensures in
-    let zero = accepted h e in
-    let stands = h .stands _ e in
-    let done = c .before .before .before .before .product-by .ensures in (
-      sym zero,
-      (
-        union-made (inputs stands (product-accepted _ _ _ _ _ _ zero)) (done .0)
-            ∙ ap (λ (v : ℕ). unionTable (args .n) v (now (args .a)) (now (args .b))) (stands .value-is),
-        done .1,
-      ),
-    )
+    let at = c .before .before .before .before .before .before .before .before in
+    let s = at .before .before .before .before .before .before .before .args in
+    let h = at .before .before .check-product .ensures in
+    let e = at .modulus .given .1 in
+    let done = c .before .before .before .before .product-by .ensures in
+    accepted-call h e (λ (m : ℕ). unionTable (s .n) m (now (s .a)) (now (s .b))) (union-made (inputs (h .stands _ e) (product-accepted _ _ _ _ _ _ (accepted h e))) (done .0)) _ _ (done .1)
 
 returns-2 : tie.Need-returns-2
 returns-2 c =
-    let args = c .before .before .before .before .before .before .before .before .args in
-    let e = c .before .word .given .1 in
-    let h = c .before .before .before .check-product .ensures in (
-      refused h e,
-      (
-        word-kept h e (unionTable (args .n) (args .m) (now (args .a)) (now (args .b))) (now (args .result)),
-        word-kept h e (cleared (padLength (args .n)) (now (args .pad))) (now (args .pad)),
-      ),
-    )
+    let s = c .before .before .before .before .before .before .before .before .args in
+    refused-call (c .before .before .before .check-product .ensures) (c .before .word .given .1) (unionTable (s .n) (s .m) (now (s .a)) (now (s .b))) (now (s .result)) (s .n) (now (s .pad))
 
 pub union-product-spec : {M : Type 1} → statement M
 union-product-spec =

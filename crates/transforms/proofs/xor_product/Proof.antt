@@ -1,10 +1,8 @@
-use mathlib.Core.Path.{sym, ap, _∙_}
 use Prim.Native.Nat.{ℕ}
 use denote.Ref.{now}
-use Rattle.definitions.specs.Limits.{padLength}
 use Rattle.definitions.specs.Products.{xorTable}
-use Rattle.definitions.specs.Refusals.{cleared}
-use Rattle.checks.specs.Answers.{accepted, refused, word-kept}
+use Rattle.checks.specs.Answers.{accepted}
+use Rattle.checks.specs.Ends.{accepted-call, refused-call}
 use Rattle.transforms.proofs.Calls.{inputs, xor-accepted, xor-odd}
 use borrow.Author.Needs.{needs}
 use Rattle.transforms.proofs.xor_product.Statement.{statement}
@@ -34,25 +32,17 @@ same-length-2 c = search needs
 
 returns : tie.Need-returns
 returns c =
-    let args = c .before .before .before .before .before .before .before .before .before .before .before .before .before .before .before .args in
-    let e = c .before .before .before .before .before .before .before .before .modulus .given .1 in
-    let h = c .before .before .before .before .before .before .before .before .before .before .check-xor .ensures in
-    let done = c .before .before .before .before .xor-tables .ensures in (
-      sym (accepted h e),
-      (done .0 ∙ ap (λ (v : ℕ). xorTable (args .n) v (now (args .a)) (now (args .b))) (h .stands _ e .value-is), done .1),
-    )
+    let at = c .before .before .before .before .before .before .before .before in
+    let s = at .before .before .before .before .before .before .before .args in
+    let h = at .before .before .check-xor .ensures in
+    let e = at .modulus .given .1 in
+    let done = c .before .before .before .before .xor-tables .ensures in
+    accepted-call h e (λ (m : ℕ). xorTable (s .n) m (now (s .a)) (now (s .b))) (done .0) _ _ (done .1)
 
 returns-2 : tie.Need-returns-2
 returns-2 c =
-    let args = c .before .before .before .before .before .before .before .before .args in
-    let e = c .before .word .given .1 in
-    let h = c .before .before .before .check-xor .ensures in (
-      refused h e,
-      (
-        word-kept h e (xorTable (args .n) (args .m) (now (args .a)) (now (args .b))) (now (args .result)),
-        word-kept h e (cleared (padLength (args .n)) (now (args .pad))) (now (args .pad)),
-      ),
-    )
+    let s = c .before .before .before .before .before .before .before .before .args in
+    refused-call (c .before .before .before .check-xor .ensures) (c .before .word .given .1) (xorTable (s .n) (s .m) (now (s .a)) (now (s .b))) (now (s .result)) (s .n) (now (s .pad))
 
 pub xor-product-spec : {M : Type 1} → statement M
 xor-product-spec =

@@ -1,15 +1,27 @@
-use mathlib.Core.Path.{sym}
 use Prim.Native.Nat.{ℕ}
+use native.Mathlib.Nat.{le-refl}
+use native.Mathlib.Omega.{arith}
 use denote.Ref.{now}
 use lib.ListN.{length}
 use borrow.Author.Needs.{needs}
-use Rattle.composition_calls.specs.Ends.{composed, composition-zero, row-ready, by-value, used-in, used-long, ready, clear-ready, pad-cleared}
-use Rattle.checks.specs.Answers.{refused, word-kept}
-use Rattle.definitions.specs.Refusals.{cleared}
 use Rattle.definitions.specs.Partitions.{compositionTable}
-use Rattle.definitions.specs.Limits.{padLength}
+use Rattle.checks.specs.Accepted.{Single}
+use Rattle.checks.specs.Answers.{accepted}
+use Rattle.checks.specs.Ends.{Lent, used-in, part-long, clear-fits, front-cleared, accepted-call, refused-call}
+use Rattle.composition_calls.specs.Cores.{composed, row-ready, ready}
 use Rattle.composition_calls.proofs.compositions.composition.Statement.{statement}
 use Rattle.composition_calls.proofs.compositions.composition.Tie as tie
+
+-- where the tests have accepted: how the call started, and what they found
+abbrev start : tie.After-modulus → tie.Start
+start c = c .before .before .before .before .before .before .before
+
+found : (c : tie.After-modulus) → let s = start c .args in
+    Single (s .n) (s .m) (now (s .a)) (length (now (s .result))) (length (now (s .pad)))
+found c = composed _ _ _ _ _ _ (accepted (c .before .before .check-composition .ensures) (c .modulus .given .1))
+
+lent : (c : tie.After-pad-length) → let s = start (c .before .before) .args in Lent (s .n) (c .pad-length .result) (now (s .pad))
+lent c = record { used-is = c .pad-length .ensures; room = found (c .before .before) .pad }
 
 check-composition-requires : tie.Need-check-composition-requires
 check-composition-requires c κs = search needs
@@ -18,46 +30,26 @@ enum-known-modulus : tie.Need-enum-known-modulus
 enum-known-modulus c = search needs
 
 pad-length-requires : tie.Need-pad-length-requires
-pad-length-requires c κs =
-    let s = c .before .before .before .before .before .before .before .before .args in
-    let h = c .before .before .before .check-composition .ensures in
-    let given = c .before .modulus .given .1 in
-    let single = composed (s .n) (s .m) (now (s .a)) (now (s .f)) (length (now (s .result))) (length (now (s .pad))) h given in
-    single .range .few
+pad-length-requires c κs = found (c .before) .range .few
 
 slice-relend-prefix-composition-table : tie.Need-slice-relend-prefix-composition-table
-slice-relend-prefix-composition-table c =
-    let s = c .before .before .before .before .before .before .before .before .before .before .args in
-    let h = c .before .before .before .before .before .check-composition .ensures in
-    let given = c .before .before .before .modulus .given .1 in
-    let single = composed (s .n) (s .m) (now (s .a)) (now (s .f)) (length (now (s .result))) (length (now (s .pad))) h given in
-    used-in (s .n) (s .m) (c .before .pad-length .result) (now (s .a)) (now (s .result)) (now (s .pad)) (c .before .pad-length .ensures) single
+slice-relend-prefix-composition-table c = used-in (lent (c .before))
 
 slice-aggregate-composition-table : tie.Need-slice-aggregate-composition-table
-slice-aggregate-composition-table c =
-    let s = c .before .before .before .before .before .before .before .before .before .before .before .args in
-    let h = c .before .before .before .before .before .before .check-composition .ensures in
-    let given = c .before .before .before .before .modulus .given .1 in
-    let single = composed (s .n) (s .m) (now (s .a)) (now (s .f)) (length (now (s .result))) (length (now (s .pad))) h given in
-    used-long (s .n) (s .m) (c .before .before .pad-length .result) (now (s .a)) (now (s .result)) (now (s .pad)) (c .before .before .pad-length .ensures) single
+slice-aggregate-composition-table c = part-long (lent (c .before .before)) (le-refl _)
 
 composition-table-requires : tie.Need-composition-table-requires
 composition-table-requires c κs =
-    let s = c .before .before .before .before .before .before .before .before .before .before .before .args in
-    let h = c .before .before .before .before .before .before .check-composition .ensures in
-    let given = c .before .before .before .before .modulus .given .1 in
-    let single = composed (s .n) (s .m) (now (s .a)) (now (s .f)) (length (now (s .result))) (length (now (s .pad))) h given in
-    let stands = h .stands _ given in
-    (stands .valid, (ready (s .n) (s .m) (c .before .before .pad-length .result) (now (s .a)) (now (s .result)) (now (s .pad)) (c .before .before .pad-length .ensures) single stands, row-ready (s .n) (s .m) (now (s .a)) (now (s .f)) (length (now (s .result))) (length (now (s .pad))) h given))
+    let at = c .before .before in
+    let h = at .before .before .before .before .check-composition .ensures in
+    let e = at .before .before .modulus .given .1 in
+    let s = h .stands _ e in
+    (s .valid, (ready (found (at .before .before)) (lent at) s, row-ready _ _ _ _ _ _ (accepted h e) s))
 
 clear-requires : tie.Need-clear-requires
 clear-requires c κs =
-    let s = c .before .before .before .before .before .before .before .before .before .before .before .before .before .before .before .before .before .args in
-    let h = c .before .before .before .before .before .before .before .before .before .before .before .before .check-composition .ensures in
-    let given = c .before .before .before .before .before .before .before .before .before .before .modulus .given .1 in
-    let single = composed (s .n) (s .m) (now (s .a)) (now (s .f)) (length (now (s .result))) (length (now (s .pad))) h given in
-    let worked = c .before .before .before .before .before .composition-table in
-    clear-ready (s .n) (s .m) (c .before .before .before .before .before .before .before .before .pad-length .result) (now (s .a)) (now (s .result)) (now (s .pad)) (c .before .before .before .before .before .before .before .before .pad-length .ensures) single (worked .last .1 .1 .1 .1 .1 .0) (worked .kept .1 .1 .1 .1 .1 .0)
+    let at = c .before .before .before .before .before in
+    omega (arith, clear-fits (lent (at .before .before .before)) (le-refl _) (at .composition-table .last .1 .1 .1 .1 .1 .0) (at .composition-table .kept .1 .1 .1 .1 .1 .0))
 
 enum-known-word : tie.Need-enum-known-word
 enum-known-word c = search needs
@@ -70,30 +62,18 @@ same-length-2 c = search needs
 
 returns : tie.Need-returns
 returns c =
-    let s = c .before .before .before .before .before .before .before .before .before .before .before .before .before .before .before .before .before .before .before .before .args in
-    let h = c .before .before .before .before .before .before .before .before .before .before .before .before .before .before .before .check-composition .ensures in
-    let given = c .before .before .before .before .before .before .before .before .before .before .before .before .before .modulus .given .1 in
-    let single = composed (s .n) (s .m) (now (s .a)) (now (s .f)) (length (now (s .result))) (length (now (s .pad))) h given in
-    let stands = h .stands _ given in
-    let worked = c .before .before .before .before .before .before .before .before .composition-table in (
-      sym (composition-zero (s .n) (s .m) (now (s .a)) (now (s .f)) (length (now (s .result))) (length (now (s .pad))) h given),
-      (
-        by-value stands (λ (m : ℕ). compositionTable (s .n) m (now (s .f)) (now (s .a))) (worked .ensures),
-        pad-cleared (s .n) (s .m) (c .before .before .before .before .before .before .before .before .before .before .before .pad-length .result) (now (s .a)) (now (s .result)) (now (s .pad)) (c .before .before .before .before .before .before .before .before .before .before .before .pad-length .ensures) single (worked .last .1 .1 .1 .1 .1 .0) (worked .kept .1 .1 .1 .1 .1 .0) (c .before .before .clear .ensures),
-      ),
-    )
+    let at = c .before .before .before .before .before .before .before .before in
+    let lending = at .before .before .before in
+    let accepting = lending .before .before in
+    let s = start accepting .args in
+    accepted-call (accepting .before .before .check-composition .ensures) (accepting .modulus .given .1)
+    (λ (m : ℕ). compositionTable (s .n) m (now (s .f)) (now (s .a))) (at .composition-table .ensures)
+    _ _ (front-cleared (lent lending) (le-refl _) (at .composition-table .last .1 .1 .1 .1 .1 .0) (at .composition-table .kept .1 .1 .1 .1 .1 .0) (c .before .before .clear .ensures))
 
 returns-2 : tie.Need-returns-2
 returns-2 c =
     let s = c .before .before .before .before .before .before .before .before .args in
-    let h = c .before .before .before .check-composition .ensures in
-    let given = c .before .word .given .1 in (
-      refused h given,
-      (
-        word-kept h given (compositionTable (s .n) (s .m) (now (s .f)) (now (s .a))) (now (s .result)),
-        word-kept h given (cleared (padLength (s .n)) (now (s .pad))) (now (s .pad)),
-      ),
-    )
+    refused-call (c .before .before .before .check-composition .ensures) (c .before .word .given .1) (compositionTable (s .n) (s .m) (now (s .f)) (now (s .a))) (now (s .result)) (s .n) (now (s .pad))
 
 pub composition-spec : {M : Type 1} → statement M
 composition-spec =

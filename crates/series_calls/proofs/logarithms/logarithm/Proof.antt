@@ -1,16 +1,29 @@
-use mathlib.Core.Path.{sym, _∙_}
+use Prim.Native.Nat.{ℕ}
+use native.Mathlib.Nat.{le-refl}
+use native.Mathlib.Omega.{arith}
 use denote.Ref.{now}
 use lib.ListN.{length}
 use borrow.Author.Needs.{needs}
-use Rattle.series_calls.proofs.Logging.{logged, is-logarithm}
-use Rattle.composition_calls.specs.Ends.{started, start-zero, used-in, used-long, ready, clear-ready, pad-cleared}
-use Rattle.checks.specs.Answers.{refused, word-kept}
-use Rattle.checks.specs.Accepted.{logarithm-number}
+use Rattle.definitions.specs.Refusals.{logarithmNumber}
 use Rattle.theory.specs.Logarithm.{logarithmOf}
-use Rattle.definitions.specs.Refusals.{cleared}
-use Rattle.definitions.specs.Limits.{padLength}
+use Rattle.checks.specs.Accepted.{Single}
+use Rattle.checks.specs.Answers.{accepted}
+use Rattle.checks.specs.Ends.{Lent, used-in, part-long, clear-fits, front-cleared, accepted-call, refused-call}
+use Rattle.composition_calls.specs.Cores.{started, ready}
+use Rattle.series_calls.proofs.Logging.{is-logarithm}
 use Rattle.series_calls.proofs.logarithms.logarithm.Statement.{statement}
 use Rattle.series_calls.proofs.logarithms.logarithm.Tie as tie
+
+-- where the tests have accepted: how the call started, and what they found
+abbrev start : tie.After-modulus → tie.Start
+start c = c .before .before .before .before .before .before
+
+found : (c : tie.After-modulus) → let s = start c .args in
+    Single (s .n) (s .m) (now (s .e)) (length (now (s .result))) (length (now (s .pad)))
+found c = started _ _ _ _ _ _ (accepted (c .before .before .check-start .ensures) (c .modulus .given .1))
+
+lent : (c : tie.After-pad-length) → let s = start (c .before .before) .args in Lent (s .n) (c .pad-length .result) (now (s .pad))
+lent c = record { used-is = c .pad-length .ensures; room = found (c .before .before) .pad }
 
 check-start-requires : tie.Need-check-start-requires
 check-start-requires c κs = search needs
@@ -19,46 +32,24 @@ enum-known-modulus : tie.Need-enum-known-modulus
 enum-known-modulus c = search needs
 
 pad-length-requires : tie.Need-pad-length-requires
-pad-length-requires c κs =
-    let s = c .before .before .before .before .before .before .before .args in
-    let h = c .before .before .before .check-start .ensures in
-    let given = c .before .modulus .given .1 in
-    let single = started (s .n) (s .m) (now (s .e)) (length (now (s .result))) (length (now (s .pad))) 1 h given in
-    single .range .few
+pad-length-requires c κs = found (c .before) .range .few
 
 slice-relend-prefix-logarithm-table : tie.Need-slice-relend-prefix-logarithm-table
-slice-relend-prefix-logarithm-table c =
-    let s = c .before .before .before .before .before .before .before .before .before .args in
-    let h = c .before .before .before .before .before .check-start .ensures in
-    let given = c .before .before .before .modulus .given .1 in
-    let single = started (s .n) (s .m) (now (s .e)) (length (now (s .result))) (length (now (s .pad))) 1 h given in
-    used-in (s .n) (s .m) (c .before .pad-length .result) (now (s .e)) (now (s .result)) (now (s .pad)) (c .before .pad-length .ensures) single
+slice-relend-prefix-logarithm-table c = used-in (lent (c .before))
 
 slice-aggregate-logarithm-table : tie.Need-slice-aggregate-logarithm-table
-slice-aggregate-logarithm-table c =
-    let s = c .before .before .before .before .before .before .before .before .before .before .args in
-    let h = c .before .before .before .before .before .before .check-start .ensures in
-    let given = c .before .before .before .before .modulus .given .1 in
-    let single = started (s .n) (s .m) (now (s .e)) (length (now (s .result))) (length (now (s .pad))) 1 h given in
-    used-long (s .n) (s .m) (c .before .before .pad-length .result) (now (s .e)) (now (s .result)) (now (s .pad)) (c .before .before .pad-length .ensures) single
+slice-aggregate-logarithm-table c = part-long (lent (c .before .before)) (le-refl _)
 
 logarithm-table-requires : tie.Need-logarithm-table-requires
 logarithm-table-requires c κs =
-    let s = c .before .before .before .before .before .before .before .before .before .before .args in
-    let h = c .before .before .before .before .before .before .check-start .ensures in
-    let given = c .before .before .before .before .modulus .given .1 in
-    let single = started (s .n) (s .m) (now (s .e)) (length (now (s .result))) (length (now (s .pad))) 1 h given in
-    let stands = h .stands _ given in
-    (stands .valid, ready (s .n) (s .m) (c .before .before .pad-length .result) (now (s .e)) (now (s .result)) (now (s .pad)) (c .before .before .pad-length .ensures) single stands)
+    let at = c .before .before in
+    let s = at .before .before .before .before .check-start .ensures .stands _ (at .before .before .modulus .given .1) in
+    (s .valid, ready (found (at .before .before)) (lent at) s)
 
 clear-requires : tie.Need-clear-requires
 clear-requires c κs =
-    let s = c .before .before .before .before .before .before .before .before .before .before .before .before .before .before .before .before .args in
-    let h = c .before .before .before .before .before .before .before .before .before .before .before .before .check-start .ensures in
-    let given = c .before .before .before .before .before .before .before .before .before .before .modulus .given .1 in
-    let single = started (s .n) (s .m) (now (s .e)) (length (now (s .result))) (length (now (s .pad))) 1 h given in
-    let worked = c .before .before .before .before .before .logarithm-table in
-    clear-ready (s .n) (s .m) (c .before .before .before .before .before .before .before .before .pad-length .result) (now (s .e)) (now (s .result)) (now (s .pad)) (c .before .before .before .before .before .before .before .before .pad-length .ensures) single (worked .last .1 .1 .1 .1 .0) (worked .kept .1 .1 .1 .1 .0)
+    let at = c .before .before .before .before .before in
+    omega (arith, clear-fits (lent (at .before .before .before)) (le-refl _) (at .logarithm-table .last .1 .1 .1 .1 .0) (at .logarithm-table .kept .1 .1 .1 .1 .0))
 
 enum-known-word : tie.Need-enum-known-word
 enum-known-word c = search needs
@@ -70,36 +61,26 @@ same-length-2 : tie.Need-same-length-2
 same-length-2 c = search needs
 
 returns : tie.Need-returns
+unfolding logarithmNumber
 returns c =
-    let s = c .before .before .before .before .before .before .before .before .before .before .before .before .before .before .before .before .before .before .before .args in
-    let h = c .before .before .before .before .before .before .before .before .before .before .before .before .before .before .before .check-start .ensures in
-    let given = c .before .before .before .before .before .before .before .before .before .before .before .before .before .modulus .given .1 in
-    let single = started (s .n) (s .m) (now (s .e)) (length (now (s .result))) (length (now (s .pad))) 1 h given in
-    let worked = c .before .before .before .before .before .before .before .before .logarithm-table in (
-      sym (logarithm-number (s .n) (s .m) (now (s .e)) (length (now (s .result))) (length (now (s .pad))) ∙ start-zero (s .n) (s .m) (now (s .e)) (length (now (s .result))) (length (now (s .pad))) 1 h given),
-      (
-        logged (s .n) (s .m) (now (s .e)) (length (now (s .result))) (length (now (s .pad))) h given (worked .last .1 .1 .1 .0) (worked .ensures),
-        (
-          (λ z. is-logarithm (s .n) (s .m) (now (s .e)) (length (now (s .result))) (length (now (s .pad))) h given (worked .last .1 .1 .1 .0) (worked .ensures)),
-          pad-cleared (s .n) (s .m) (c .before .before .before .before .before .before .before .before .before .before .before .pad-length .result) (now (s .e)) (now (s .result)) (now (s .pad)) (c .before .before .before .before .before .before .before .before .before .before .before .pad-length .ensures) single (worked .last .1 .1 .1 .1 .0) (worked .kept .1 .1 .1 .1 .0) (c .before .before .clear .ensures),
-        ),
-      ),
-    )
+    let at = c .before .before .before .before .before .before .before .before in
+    let lending = at .before .before .before in
+    let accepting = lending .before .before in
+    let s = start accepting .args in
+    let h = accepting .before .before .check-start .ensures in
+    let e = accepting .modulus .given .1 in
+    let end = accepted-call h e (λ (m : ℕ). logarithmOf (s .n) m (now (s .e))) (at .logarithm-table .ensures)
+    _ _ (front-cleared (lent lending) (le-refl _) (at .logarithm-table .last .1 .1 .1 .1 .0) (at .logarithm-table .kept .1 .1 .1 .1 .0) (c .before .before .clear .ensures)) in
+    (end .0, (end .1 .0, ((λ z. is-logarithm _ _ _ _ _ (accepted h e) (end .1 .0)), end .1 .1)))
 
 returns-2 : tie.Need-returns-2
+unfolding logarithmNumber
 returns-2 c =
     let s = c .before .before .before .before .before .before .before .args in
     let h = c .before .before .before .check-start .ensures in
-    let given = c .before .word .given .1 in (
-      refused h given ∙ sym (logarithm-number (s .n) (s .m) (now (s .e)) (length (now (s .result))) (length (now (s .pad)))),
-      (
-        word-kept h given (logarithmOf (s .n) (s .m) (now (s .e))) (now (s .result)),
-        (
-          (λ z. absurd (h .word _ given z)),
-          word-kept h given (cleared (padLength (s .n)) (now (s .pad))) (now (s .pad)),
-        ),
-      ),
-    )
+    let e = c .before .word .given .1 in
+    let end = refused-call h e (logarithmOf (s .n) (s .m) (now (s .e))) (now (s .result)) (s .n) (now (s .pad)) in
+    (end .0, (end .1 .0, ((λ z. absurd (h .word _ e z)), end .1 .1)))
 
 pub logarithm-spec : {M : Type 1} → statement M
 logarithm-spec =

@@ -1,0 +1,72 @@
+-- How a call ends: the pad that it worked in, and what it answers for an `Accepted` or a `Refused`.
+--   Lent, used-in, part-long     a call lends the part of its pad that it may use, or the front of that part, to a worker
+--   clear-fits, front-cleared    whatever the worker left there, clearing the part makes it what 01 promises
+--   accepted-result, refused-result    number and result of a call without a pad
+--   accepted-call, refused-call        number, result and pad
+use mathlib.Core.Path.{_≡_, sym, ap, _∙_}
+use mathlib.Core.List.{List, _++_}
+use Prim.Native.Nat.{ℕ, _+_, _-_, _≤_}
+use native.Mathlib.Omega.{arith}
+use lib.ListN.{length, take, drop}
+use lib.Seq.{length-take-le, length-front, drop-at, drop-drop}
+use Rattle.definitions.specs.Limits.{padLength}
+use Rattle.definitions.specs.Sums.{tabulate}
+use Rattle.definitions.specs.Refusals.{after, cleared, padAfter}
+use Rattle.residues.specs.declared.Modulus.{Modulus}
+use Rattle.checks.specs.Answers.{IsChecked, accepted, refused, word-kept}
+use Rattle.checks.specs.declared.Checked.{Checked}
+use Rattle.checks.specs.declared.Checked.the-variants.{Accepted, Refused}
+
+-- ---- the pad
+
+-- a call on n controls may use so many entries of its pad, and has them
+pub record Lent (n used : ℕ) (pad : List ℕ) : Type 0 where
+  pub used-is : used ≡ padLength n
+  pub room : padLength n ≤ length pad
+
+module _ {n used : ℕ} {pad : List ℕ} (h : Lent n used pad) where
+  pub used-in : used ≤ length pad
+  used-in = omega (arith, h .used-is, h .room)
+
+  -- the front of so many entries
+  module _ {long : ℕ} (part : long ≤ used) where
+    pub part-long : long ≡ length (take long pad)
+    part-long = sym (length-take-le long pad (omega (arith, used-in)))
+
+    -- a worker was lent the front and left `new` there
+    module _ (new : List ℕ) (kept : length new ≡ length (take long pad)) where
+      pub clear-fits : used ≤ length (new ++ drop long pad)
+      clear-fits = omega (arith, length-front pad new long kept, used-in)
+
+      rest : drop used (new ++ drop long pad) ≡ drop used pad
+      rest =
+          let split : used ≡ long + (used - long) = omega arith in
+          ap (λ (k : ℕ). drop k (new ++ drop long pad)) split
+          ∙ sym (drop-drop (used - long) long (new ++ drop long pad))
+          ∙ ap (drop (used - long)) (drop-at new (drop long pad) long (kept ∙ sym part-long))
+          ∙ drop-drop (used - long) long pad
+          ∙ ap (λ (k : ℕ). drop k pad) (sym split)
+
+      pub front-cleared : {last : List ℕ} → last ≡ cleared used (new ++ drop long pad) → last ≡ cleared (padLength n) pad
+      unfolding cleared
+      front-cleared e =
+          e ∙ ap (λ (l : List ℕ). tabulate used (λ i. 0) ++ l) rest
+          ∙ ap (λ (k : ℕ). tabulate k (λ i. 0) ++ drop k pad) (h .used-is)
+
+-- ---- the answer
+
+module _ {m k : ℕ} {answer : Checked} (h : IsChecked m k answer) where
+  -- a worker made the table under the modulus' value
+  module _ {modulus : Modulus} (e : answer ≡ Accepted modulus) (table : ℕ → List ℕ) {new : List ℕ} (made : new ≡ table (modulus .value)) where
+    pub accepted-result : (0 ≡ k) × (new ≡ table m)
+    accepted-result = (sym (accepted h e), made ∙ ap table (h .stands modulus e .value-is))
+
+    pub accepted-call : (n : ℕ) (pad : List ℕ) {last : List ℕ} → last ≡ padAfter 0 n pad → (0 ≡ k) × ((new ≡ table m) × (last ≡ padAfter 0 n pad))
+    accepted-call n pad end = (accepted-result .0, (accepted-result .1, end))
+
+  module _ {w : ℕ} (e : answer ≡ Refused w) (new old : List ℕ) where
+    pub refused-result : (w ≡ k) × (old ≡ after w new old)
+    refused-result = (refused h e, word-kept h e new old)
+
+    pub refused-call : (n : ℕ) (pad : List ℕ) → (w ≡ k) × ((old ≡ after w new old) × (pad ≡ padAfter w n pad))
+    refused-call n pad = (refused-result .0, (refused-result .1, word-kept h e (cleared (padLength n) pad) pad))
