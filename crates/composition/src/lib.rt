@@ -29,7 +29,7 @@ fn copy_table(size: usize, source: usize, target: usize, result: &mut [u32])
 
 // The product of the table of k controls at one place of the result, which is laid out first, and of a's entries with
 // control k alone of the controls from k on, into another place.
-pub fn multiply_slot(
+fn multiply_slot(
     k: usize,
     modulus: Modulus,
     source: usize,

@@ -12,7 +12,7 @@ use Rattle.exponential.proofs.Halves.{single, half-a, in-r, half-r, fir
 use Rattle.exponential.proofs.exponential_table.Reads as exponential-table
 use Rattle.exponential.proofs.exponential_table.Kinds as exponential-table-kinds
 use Rattle.exponential.proofs.+exponential_table.Lts-exponential_table as exponential-table-lts
-use Rattle.composition.proofs.multiply_slot.Reads as multiply-slot-reads
+use Rattle.exponential.proofs.fill_upper.Reads as fill-upper-reads
 use Rattle.pads.proofs.power_of_two.Reads as power-of-two-reads
 use Rattle.exponential.proofs.+exponential_table.{statement}
 use Rattle.exponential.proofs.+exponential_table.Tie.{close}
@@ -40,7 +40,7 @@ positive : {q : ℕ} → (q ≡ 0 → ⊥) → q ≡ suc (q - 1)
 positive h = omega arith
 
 abbrev calls : ℕ → exponential-table-lts.Claims
-calls t = (power-of-two-reads.Asked, power-of-two-reads.Learnt, exponential-table-below t, exponential-table.Post, multiply-slot-reads.Asked, multiply-slot-reads.Learnt)
+calls t = (power-of-two-reads.Asked, power-of-two-reads.Learnt, exponential-table-below t, exponential-table.Post, fill-upper-reads.Asked, fill-upper-reads.Learnt)
 
 exponential-table-slice-write-result : (t : ℕ) → exponential-table-lts.Need-slice-write-result (calls t) (exponential-table-at t) exponential-table.Post
 exponential-table-slice-write-result t c =
@@ -75,16 +75,20 @@ exponential-table-slice-aggregate-exponential-table-2 t c =
 exponential-table-exponential-table-requires :
     (t : ℕ) → exponential-table-lts.Need-exponential-table-requires (calls t) (exponential-table-at t) exponential-table.Post
 exponential-table-exponential-table-requires t c κs =
-    let s = c .before .before .before .before .before .before .before .before in
-    (omega (arith, s .pre .0, c .before .before .before .before .if1 .left), (s .pre .1 .0, first-ready (positive (c .before .before .before .before .if1 .left)) (c .before .before .before .power-of-two .ensures) (s .pre .1 .1)))
+    let s = c .before .before .before .before .before .before .before .before in (
+      omega (arith, s .pre .0, c .before .before .before .before .if1 .left),
+      (
+        s .pre .1 .0,
+        first-ready (positive (c .before .before .before .before .if1 .left)) (c .before .before .before .power-of-two .ensures) (s .pre .1 .1),
+      ),
+    )
 
-exponential-table-multiply-slot-requires : (t : ℕ) → exponential-table-lts.Need-multiply-slot-requires (calls t) (exponential-table-at t) exponential-table.Post
-exponential-table-multiply-slot-requires t c κs =
+exponential-table-fill-upper-requires : (t : ℕ) → exponential-table-lts.Need-fill-upper-requires (calls t) (exponential-table-at t) exponential-table.Post
+exponential-table-fill-upper-requires t c κs =
     let s = c .before .before .before .before .before .before .before .before .before .before .before .before .before .before .before in
     let rec = c .before .before .before .before .before .before .exponential-table in
     let power = c .before .before .before .before .before .before .before .before .before .before in
-    let q = positive (power .before .if1 .left) in
-    (s .pre .1 .0, lower-done q (power .power-of-two .ensures) (s .pre .1 .1) (rec .kept .1 .1 .1 .0) (rec .ensures) (s .pre .1 .0 .lowest) _ (rec .kept .1 .1 .1 .1 .0) _ (omega arith))
+    (s .pre .1 .0, lower-done (positive (power .before .if1 .left)) (power .power-of-two .ensures) (s .pre .1 .1) (rec .kept .1 .1 .1 .0) (rec .ensures) (s .pre .1 .0 .lowest) _ (rec .kept .1 .1 .1 .1 .0))
 
 exponential-table-same-length : (t : ℕ) → exponential-table-lts.Need-same-length (calls t) (exponential-table-at t) exponential-table.Post
 exponential-table-same-length t c = search needs
@@ -105,8 +109,8 @@ exponential-table-returns-2 t c =
     let s = c .before .before .before .before .before .before .before .before .before .before .before .before .before .before .before .before .before .before .before .before in
     let rec = c .before .before .before .before .before .before .before .before .before .before .before .exponential-table in
     let power = c .before .before .before .before .before .before .before .before .before .before .before .before .before .before .before in
-    let made = c .before .before .before .before .multiply-slot in
-    both-halves (positive (power .before .if1 .left)) (power .power-of-two .ensures) (s .pre .1 .1) (rec .kept .1 .1 .1 .0) (rec .ensures) (made .kept .1 .1 .1 .1 .1 .0) (made .ensures)
+    both-halves (positive (power .before .if1 .left)) (power .power-of-two .ensures) (s .pre .1 .1) (rec .kept .1 .1 .1 .0) (rec .ensures)
+    (c .before .before .before .before .fill-upper .ensures)
 
 pub +exponential-table-spec : {M : Type 1} → statement M
 +exponential-table-spec = close μ-exponential-table λ t. exponential-table-lts.spec (calls t)
@@ -119,7 +123,7 @@ pub +exponential-table-spec : {M : Type 1} → statement M
     (exponential-table-slice-relend-prefix-exponential-table t)
     (exponential-table-slice-aggregate-exponential-table-2 t)
     (exponential-table-exponential-table-requires t)
-    (exponential-table-multiply-slot-requires t)
+    (exponential-table-fill-upper-requires t)
     (exponential-table-same-length t)
     (exponential-table-returns t)
     (exponential-table-same-length-2 t)
