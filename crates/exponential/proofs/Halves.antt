@@ -15,7 +15,7 @@ use Rattle.theory.specs.Lists.{at-residues, residues-of}
 use Rattle.theory.specs.Composition.{composition-empty}
 use Rattle.theory.specs.Tables.{exponential-halves}
 use Rattle.ranked_theory.specs.Recursion.{Room, LaidLeft, FactorsReady, ProductOfLaid}
-use Rattle.composition.specs.Ready.{rowsLength, Ready, rows-mono}
+use Rattle.composition.specs.Ready.{Ready, rows-mono}
 use Rattle.composition.proofs.Parts.{part-behind, put-behind}
 use Rattle.exponential.specs.Lower.{LowerDone, upperFilled}
 

@@ -1,5 +1,4 @@
 use Rattle.laws_theory.specs.Theorem.{made, made-in-pad, made-in-pad-with, laws-hold}
-use borrow.Author.Needs.{needs}
 use Rattle.laws.proofs.laws.Statement.{statement}
 use Rattle.laws.proofs.laws.Tie as tie
 
