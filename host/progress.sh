@@ -63,6 +63,11 @@ build_library() {
     quietly "$1" rt staticlib sps
 }
 
+# Says where the library is: tell_library ARCHIVE
+tell_library() {
+    tell "archive: $1; header: host/include/sps.h; example: host/example/count_sessions.c"
+}
+
 # Passes lines on, and counts on the terminal those that match: passing WHAT TOTAL PATTERN
 passing() {
     local what=$1 total=$2 pattern=$3 done=0 line
