@@ -1,6 +1,17 @@
 # Sourced by the scripts that prove and build: what they are doing and how far they are, on the terminal only. What a command
 # prints goes to a log, which is shown when the command fails.
 
+# the repository, where each script is when it reads this
+root=$PWD
+
+# Stops at once if a tool is missing: needs TOOL..
+needs() {
+    local tool
+    for tool; do
+        command -v "$tool" >/dev/null || { echo "this needs $tool, which is not here"; exit 1; }
+    done
+}
+
 # A line on the terminal.
 tell() {
     [ ! -t 2 ] || printf '%s\n' "$*" >&2
@@ -63,9 +74,9 @@ build_library() {
     quietly "$1" rt staticlib sps
 }
 
-# Says where the library is: tell_library ARCHIVE
+# Says where the library is, whatever the folder is by now: tell_library ARCHIVE
 tell_library() {
-    tell "archive: $1; header: host/include/sps.h; example: host/example/count_sessions.c"
+    tell "archive: $(cd "$root" && realpath "$1"); header: $root/host/include/sps.h; example: $root/host/example/count_sessions.c"
 }
 
 # Passes lines on, and counts on the terminal those that match: passing WHAT TOTAL PATTERN

@@ -1,5 +1,5 @@
--- When a call is accepted: the facts that its tests give, and that these facts are enough. For each shape of call a record of
--- the facts, `SHAPE-accepted` from the number 0 to the record and `SHAPE-accepts` back.
+-- When a call is accepted: the facts that its tests give. For each shape of call a record of the facts, and `SHAPE-accepted`
+-- from the number 0 to the record; of one list alone also that the facts are enough, `list-accepts`.
 use mathlib.Core.Path.{_≡_, refl}
 use mathlib.Core.Bool.{true, not}
 use mathlib.Core.List.{List, [], _∷_}
