@@ -1,2 +1,1 @@
-pub mod Panels
 pub mod Making

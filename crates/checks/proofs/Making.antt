@@ -2,24 +2,31 @@
 -- that comes after the others.
 use mathlib.Core.Path.{_≡_, refl, sym, _∙_, ap, ap₂}
 use mathlib.Core.List.{List, [], _∷_}
-use Prim.Native.Nat.{ℕ, zero, suc, _^_, _<_, _≤_}
+use Prim.Native.Nat.{ℕ, zero, suc, _^_, _≤_}
 use native.Mathlib.Nat.{suc-ne-zero}
-use borrow.Author.Tests.{lt-ltb, le-ltb}
+use lib.Dec.{ltb}
+use borrow.Author.Tests.{ltb-false}
 use Rattle.definitions.specs.Limits.{mostControls}
 use Rattle.definitions.specs.Refusals.{orElse, firstWord, panelWord, modulusWord, tableWord}
 use Rattle.residues.specs.Moduli.{MadeFrom, RefusedFor}
 use Rattle.residues.specs.declared.Modulus.{Modulus}
+use Rattle.checks.specs.Words.{orElse-stop, orElse-go, no-word}
 use Rattle.checks.specs.Accepted.{lengthWord}
 use Rattle.checks.specs.Answers.{IsChecked, alsoTested, is-refused, is-accepted, same-number}
 use Rattle.checks.specs.declared.Checked.{Checked}
 use Rattle.checks.specs.declared.Checked.the-variants.{Accepted, Refused}
 
--- the panel's test, before the others
-pub panel-refused : {n m : ℕ} (k : ℕ) → mostControls < n → IsChecked m (orElse (panelWord n) k) (Refused 1)
-panel-refused {n} k h = is-refused (simp (lt-ltb mostControls n h)) (suc-ne-zero 0)
+-- the panel's test, before the others: its word stops the check, or n is in range and the others count
+module _ (n : ℕ) {w : ℕ} (e : w ≡ panelWord n) where
+  pub panel-refused : {m : ℕ} (k : ℕ) → (w ≡ 0 → ⊥) → IsChecked m (orElse (panelWord n) k) (Refused w)
+  panel-refused k h = is-refused (e ∙ sym (orElse-stop (panelWord n) k (λ z. h (e ∙ z)))) h
 
-pub past-panel : (n : ℕ) {m k : ℕ} {r : Checked} → n ≤ mostControls → IsChecked m k r → IsChecked m (orElse (panelWord n) k) r
-past-panel n h x = same-number (simp (le-ltb mostControls n h)) x
+  module _ (z : w ≡ 0) where
+    pub within : n ≤ mostControls
+    within = ltb-false mostControls n (no-word (ltb mostControls n) 1 (suc-ne-zero 0) (sym e ∙ z))
+
+    pub past-panel : {m k : ℕ} {r : Checked} → IsChecked m k r → IsChecked m (orElse (panelWord n) k) r
+    past-panel {k = k} x = same-number (sym (orElse-go (panelWord n) k (sym e ∙ z))) x
 
 -- the words behind the modulus's
 pub these-words : {m w : ℕ} {r : Checked} (ls : List ℕ) →

@@ -1,8 +1,7 @@
 -- How a call ends: the pad that it worked in, and what it answers for an `Accepted` or a `Refused`.
 --   Lent, used-in, part-long     a call lends the part of its pad that it may use, or the front of that part, to a worker
 --   clear-fits, front-cleared    whatever the worker left there, clearing the part makes it what 01 promises
---   accepted-result, refused-result    number and result of a call without a pad
---   accepted-call, refused-call        number, result and pad
+--   accepted-call, refused-call  number, result and pad; refused-result without the pad
 use mathlib.Core.Path.{_≡_, sym, ap, _∙_}
 use mathlib.Core.List.{List, _++_}
 use Prim.Native.Nat.{ℕ, _+_, _-_, _≤_}
@@ -58,11 +57,8 @@ module _ {n used : ℕ} {pad : List ℕ} (h : Lent n used pad) where
 module _ {m k : ℕ} {answer : Checked} (h : IsChecked m k answer) where
   -- a worker made the table under the modulus' value
   module _ {modulus : Modulus} (e : answer ≡ Accepted modulus) (table : ℕ → List ℕ) {new : List ℕ} (made : new ≡ table (modulus .value)) where
-    pub accepted-result : (0 ≡ k) × (new ≡ table m)
-    accepted-result = (sym (accepted h e), made ∙ ap table (h .stands modulus e .value-is))
-
     pub accepted-call : (n : ℕ) (pad : List ℕ) {last : List ℕ} → last ≡ padAfter 0 n pad → (0 ≡ k) × ((new ≡ table m) × (last ≡ padAfter 0 n pad))
-    accepted-call n pad end = (accepted-result .0, (accepted-result .1, end))
+    accepted-call n pad end = (sym (accepted h e), (made ∙ ap table (h .stands modulus e .value-is), end))
 
   module _ {w : ℕ} (e : answer ≡ Refused w) (new old : List ℕ) where
     pub refused-result : (w ≡ k) × (old ≡ after w new old)

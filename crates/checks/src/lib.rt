@@ -77,8 +77,9 @@ fn check_lists(m: u32, long: usize, a: &[u32], b: &[u32], result: usize) -> Chec
 pub fn check_pair(n: u32, m: u32, a: &[u32], b: &[u32], result: usize) -> Checked
     ensures { λ r. ⌜ IsChecked m (sumNumber n m (now (a .entry)) (now (b .entry)) result) r ⌝ }
 {
-    if panel_word(n) != 0 {
-        return Checked::Refused(1);
+    let panel = panel_word(n);
+    if panel != 0 {
+        return Checked::Refused(panel);
     }
     check_lists(m, power(n), a, b, result)
 }
@@ -87,8 +88,9 @@ pub fn check_pair(n: u32, m: u32, a: &[u32], b: &[u32], result: usize) -> Checke
 pub fn check_rows(n: u32, m: u32, f: &[u32], g: &[u32], result: usize) -> Checked
     ensures { λ r. ⌜ IsChecked m (binomialNumber n m (now (f .entry)) (now (g .entry)) result) r ⌝ }
 {
-    if panel_word(n) != 0 {
-        return Checked::Refused(1);
+    let panel = panel_word(n);
+    if panel != 0 {
+        return Checked::Refused(panel);
     }
     let long = (n as usize) + 1;
     check_lists(m, long, f, g, result)
@@ -105,8 +107,9 @@ pub fn check_product(
 ) -> Checked
     ensures { λ r. ⌜ IsChecked m (productNumber n m (now (a .entry)) (now (b .entry)) result workspace) r ⌝ }
 {
-    if panel_word(n) != 0 {
-        return Checked::Refused(1);
+    let panel = panel_word(n);
+    if panel != 0 {
+        return Checked::Refused(panel);
     }
     let long = power(n);
     let words = [
@@ -132,8 +135,9 @@ pub fn check_xor(n: u32, m: u32, a: &[u32], b: &[u32], result: usize, workspace:
 pub fn check_single(n: u32, m: u32, a: &[u32], result: usize, workspace: usize) -> Checked
     ensures { λ r. ⌜ IsChecked m (singleNumber n m (now (a .entry)) result workspace) r ⌝ }
 {
-    if panel_word(n) != 0 {
-        return Checked::Refused(1);
+    let panel = panel_word(n);
+    if panel != 0 {
+        return Checked::Refused(panel);
     }
     let long = power(n);
     let words = [
@@ -171,8 +175,9 @@ pub fn check_composition(
 ) -> Checked
     ensures { λ r. ⌜ IsChecked m (compositionNumber n m (now (a .entry)) (now (f .entry)) result workspace) r ⌝ }
 {
-    if panel_word(n) != 0 {
-        return Checked::Refused(1);
+    let panel = panel_word(n);
+    if panel != 0 {
+        return Checked::Refused(panel);
     }
     let long = power(n);
     let words = [
@@ -191,8 +196,9 @@ pub fn check_composition(
 pub fn check_table(n: u32, m: u32, a: &[u32]) -> Checked
     ensures { λ r. ⌜ IsChecked m (tableNumber n m (now (a .entry))) r ⌝ }
 {
-    if panel_word(n) != 0 {
-        return Checked::Refused(1);
+    let panel = panel_word(n);
+    if panel != 0 {
+        return Checked::Refused(panel);
     }
     let words = [length_word(power(n), a.len()), entry_word(m, a)];
     check_modulus(m, first_word(&words))

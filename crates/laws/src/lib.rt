@@ -64,10 +64,22 @@ pub fn laws(
       log-E = record { lent = now («log_e» .entry); pad = now («log_e_pad» .entry); number = k .«log_e»; result = now («log_e» .exit); pad-left = now («log_e_pad» .exit) };
       exp-log = record { lent = now («exp_log» .entry); pad = now («exp_log_pad» .entry); number = k .«exp_log»; result = now («exp_log» .exit); pad-left = now («exp_log_pad» .exit) };
       binomial = record { lent = now (binomial .entry); pad = []; number = k .binomial; result = now (binomial .exit); pad-left = [] };
-      comp-binomial = record { lent = now («comp_binomial» .entry); pad = now («comp_binomial_pad» .entry); number = k .«comp_binomial»; result = now («comp_binomial» .exit); pad-left = now («comp_binomial_pad» .exit) };
+      comp-binomial = record {
+        lent = now («comp_binomial» .entry);
+        pad = now («comp_binomial_pad» .entry);
+        number = k .«comp_binomial»;
+        result = now («comp_binomial» .exit);
+        pad-left = now («comp_binomial_pad» .exit);
+      };
       comp-f = record { lent = now («comp_f» .entry); pad = now («comp_f_pad» .entry); number = k .«comp_f»; result = now («comp_f» .exit); pad-left = now («comp_f_pad» .exit) };
       comp-g = record { lent = now («comp_g» .entry); pad = now («comp_g_pad» .entry); number = k .«comp_g»; result = now («comp_g» .exit); pad-left = now («comp_g_pad» .exit) };
-      comp-product = record { lent = now («comp_product» .entry); pad = now («comp_product_pad» .entry); number = k .«comp_product»; result = now («comp_product» .exit); pad-left = now («comp_product_pad» .exit) };
+      comp-product = record {
+        lent = now («comp_product» .entry);
+        pad = now («comp_product_pad» .entry);
+        number = k .«comp_product»;
+        result = now («comp_product» .exit);
+        pad-left = now («comp_product_pad» .exit);
+      };
     }) ⌝ }
 {
     let sum_number = entrywise::sum(n, m, a, b, sum);

@@ -6,8 +6,7 @@ use borrow.Author.Needs.{needs}
 use Rattle.definitions.specs.Refusals.{firstWord, modulusWord, sumNumber}
 use Rattle.checks.specs.Accepted.{pairWords}
 use Rattle.checks.specs.Answers.{same-number}
-use Rattle.checks.proofs.Making.{panel-refused, past-panel}
-use Rattle.checks.proofs.Panels.{above, within}
+use Rattle.checks.proofs.Making.{panel-refused, within, past-panel}
 use Rattle.checks.proofs.check_pair.Statement.{statement}
 use Rattle.checks.proofs.check_pair.Tie as tie
 
@@ -16,7 +15,7 @@ panel-word-requires c κs = search needs
 
 returns : tie.Need-returns
 unfolding sumNumber
-returns c = panel-refused _ (above (c .before .before .before .before .args .n) (c .before .panel-word .ensures) (c .if1 .taken))
+returns c = panel-refused (c .before .before .before .before .args .n) (c .before .panel-word .ensures) _ (c .if1 .taken)
 
 power-requires : tie.Need-power-requires
 power-requires c κs = within (c .before .before .before .before .args .n) (c .before .panel-word .ensures) (c .if1 .left)
@@ -29,7 +28,7 @@ unfolding sumNumber
 returns-2 c =
     let there = c .before .before in
     let s = there .before .before .before .before .args in
-    past-panel (s .n) (within (s .n) (there .before .panel-word .ensures) (there .if1 .left))
+    past-panel (s .n) (there .before .panel-word .ensures) (there .if1 .left)
     (same-number (ap (λ (k : ℕ). firstWord (modulusWord (s .m) ∷ pairWords (s .m) k (now (s .a)) (now (s .b)) (s .result))) (c .before .power .ensures))
     (c .check-lists .ensures))
 

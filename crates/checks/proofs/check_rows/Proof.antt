@@ -1,7 +1,6 @@
 use borrow.Author.Needs.{needs}
 use Rattle.definitions.specs.Refusals.{binomialNumber}
 use Rattle.checks.proofs.Making.{panel-refused, past-panel}
-use Rattle.checks.proofs.Panels.{above, within}
 use Rattle.checks.proofs.check_rows.Statement.{statement}
 use Rattle.checks.proofs.check_rows.Tie as tie
 
@@ -10,7 +9,7 @@ panel-word-requires c κs = search needs
 
 returns : tie.Need-returns
 unfolding binomialNumber
-returns c = panel-refused _ (above (c .before .before .before .before .args .n) (c .before .panel-word .ensures) (c .if1 .taken))
+returns c = panel-refused (c .before .before .before .before .args .n) (c .before .panel-word .ensures) _ (c .if1 .taken)
 
 add-long : tie.Need-add-long
 add-long c = search needs
@@ -20,8 +19,8 @@ check-lists-requires c κs = search needs
 
 returns-2 : tie.Need-returns-2
 unfolding binomialNumber
-returns-2 c = let there = c .before in
-    let s = there .before .before .before .before .args in past-panel (s .n) (within (s .n) (there .before .panel-word .ensures) (there .if1 .left)) (c .check-lists .ensures)
+returns-2 c =
+    past-panel (c .before .before .before .before .before .args .n) (c .before .before .panel-word .ensures) (c .before .if1 .left) (c .check-lists .ensures)
 
 pub check-rows-spec : {M : Type 1} → statement M
 check-rows-spec = tie.close (tie.spec panel-word-requires returns add-long check-lists-requires returns-2)

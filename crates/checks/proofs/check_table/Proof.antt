@@ -4,8 +4,7 @@ use lib.ListN.{length}
 use borrow.Author.Needs.{needs}
 use Rattle.definitions.specs.Refusals.{firstWord}
 use Rattle.checks.specs.Accepted.{tableWords}
-use Rattle.checks.proofs.Making.{panel-refused, past-panel, these-words, _then_, no-more, table-length}
-use Rattle.checks.proofs.Panels.{above, within}
+use Rattle.checks.proofs.Making.{panel-refused, within, past-panel, these-words, _then_, no-more, table-length}
 use Rattle.checks.proofs.check_table.Statement.{statement}
 use Rattle.checks.proofs.check_table.Tie as tie
 
@@ -13,7 +12,7 @@ panel-word-requires : tie.Need-panel-word-requires
 panel-word-requires c κs = search needs
 
 returns : tie.Need-returns
-returns c = panel-refused _ (above (c .before .before .before .args .n) (c .before .panel-word .ensures) (c .if1 .taken))
+returns c = panel-refused (c .before .before .before .args .n) (c .before .panel-word .ensures) _ (c .if1 .taken)
 
 power-requires : tie.Need-power-requires
 power-requires c κs = within (c .before .before .before .args .n) (c .before .panel-word .ensures) (c .if1 .left)
@@ -38,8 +37,7 @@ returns-2 c =
     let there = c .before .before .before .before .before .before in
     let s = there .before .before .before .args in
     let long = c .before .before .before .before .before .power .ensures in
-    let few = within (s .n) (there .before .panel-word .ensures) (there .if1 .left) in
-    past-panel (s .n) few
+    past-panel (s .n) (there .before .panel-word .ensures) (there .if1 .left)
     (these-words (tableWords (s .n) (s .m) (now (s .a))) (c .check-modulus .ensures)
     (c .before .first-word .ensures
     ∙ ap firstWord

@@ -88,7 +88,8 @@ exponential-table-fill-upper-requires t c κs =
     let s = c .before .before .before .before .before .before .before .before .before .before .before .before .before .before .before in
     let rec = c .before .before .before .before .before .before .exponential-table in
     let power = c .before .before .before .before .before .before .before .before .before .before in
-    (s .pre .1 .0, lower-done (positive (power .before .if1 .left)) (power .power-of-two .ensures) (s .pre .1 .1) (rec .kept .1 .1 .1 .0) (rec .ensures) (s .pre .1 .0 .lowest) _ (rec .kept .1 .1 .1 .1 .0))
+    let q = positive (power .before .if1 .left) in
+    (s .pre .1 .0, lower-done q (power .power-of-two .ensures) (s .pre .1 .1) (rec .kept .1 .1 .1 .0) (rec .ensures) (s .pre .1 .0 .lowest) _ (rec .kept .1 .1 .1 .1 .0))
 
 exponential-table-same-length : (t : ℕ) → exponential-table-lts.Need-same-length (calls t) (exponential-table-at t) exponential-table.Post
 exponential-table-same-length t c = search needs

@@ -160,8 +160,10 @@ returns c = laws-hold _ _ _ _ _ _ _ _ (record {
   exp-A = made-in-pad _ (at-exponential2 c .exponential2 .ensures .0) (at-exponential2 c .exponential2 .ensures .1 .0) (at-exponential2 c .exponential2 .ensures .1 .1);
   exp-B = made-in-pad _ (at-exponential3 c .exponential3 .ensures .0) (at-exponential3 c .exponential3 .ensures .1 .0) (at-exponential3 c .exponential3 .ensures .1 .1);
   product = made-in-pad _ (at-subset-product c .subset-product .ensures .0) (at-subset-product c .subset-product .ensures .1 .1 .0) (at-subset-product c .subset-product .ensures .1 .1 .1);
-  log-exp = made-in-pad-with _ (at-logarithm c .logarithm .ensures .0) _ (at-logarithm c .logarithm .ensures .1 .0) (at-logarithm c .logarithm .ensures .1 .1 .0) (at-logarithm c .logarithm .ensures .1 .1 .1);
-  log-E = made-in-pad-with _ (at-logarithm2 c .logarithm2 .ensures .0) _ (at-logarithm2 c .logarithm2 .ensures .1 .0) (at-logarithm2 c .logarithm2 .ensures .1 .1 .0) (at-logarithm2 c .logarithm2 .ensures .1 .1 .1);
+  log-exp = made-in-pad-with _ (at-logarithm c .logarithm .ensures .0) _ (at-logarithm c .logarithm .ensures .1 .0)
+      (at-logarithm c .logarithm .ensures .1 .1 .0) (at-logarithm c .logarithm .ensures .1 .1 .1);
+  log-E = made-in-pad-with _ (at-logarithm2 c .logarithm2 .ensures .0) _ (at-logarithm2 c .logarithm2 .ensures .1 .0)
+      (at-logarithm2 c .logarithm2 .ensures .1 .1 .0) (at-logarithm2 c .logarithm2 .ensures .1 .1 .1);
   exp-log = made-in-pad _ (at-exponential4 c .exponential4 .ensures .0) (at-exponential4 c .exponential4 .ensures .1 .0) (at-exponential4 c .exponential4 .ensures .1 .1);
   binomial = made _ (at-binomial-product c .binomial-product .ensures .0) (at-binomial-product c .binomial-product .ensures .1);
   comp-binomial = made-in-pad _ (at-composition c .composition .ensures .0) (at-composition c .composition .ensures .1 .0) (at-composition c .composition .ensures .1 .1);
