@@ -2,10 +2,12 @@ pub mod Convolution
 pub mod Cover
 pub mod Lowest
 pub mod Rows
-pub mod Recursion
 pub mod Places
+pub mod Layout
+pub mod Recursion
 pub mod Runs
 pub mod RowSteps
+pub mod Back
 pub mod Levels
 pub mod Leaf
 pub mod Halves
