@@ -1,6 +1,7 @@
 pub mod Tests
 pub mod Sums
 pub mod Lists
+pub mod Parts
 pub mod Codes
 pub mod Remainders
 pub mod Entries
