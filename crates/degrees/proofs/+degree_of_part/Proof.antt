@@ -6,13 +6,14 @@ use native.Mathlib.Omega.{arith}
 use lib.ListN.{length, take, drop, length-drop}
 use lib.Seq.{take-all, length-take-le}
 use borrow.Author.Needs.{needs}
-use borrow.Author.Tests.{eq-eqb, ne-eqb}
 use borrow.Fn.Kinds.{In}
 use borrow.Fn.PlainCycle.{Measures, is, falls, and}
 use Rattle.degrees.specs.Parts.{partDegree, part-single, part-most, part-halves}
 use Rattle.degrees.proofs.degree_of_part.Reads as degree-of-part
 use Rattle.degrees.proofs.degree_of_part.Kinds as degree-of-part-kinds
 use Rattle.degrees.proofs.+degree_of_part.Lts-degree_of_part as degree-of-part-lts
+use Rattle.degrees.proofs.counting.Reads as counting-reads
+use Rattle.degrees.proofs.degree_of_eight.Reads as degree-of-eight-reads
 use Rattle.pads.proofs.power_of_two.Reads as power-of-two-reads
 use Rattle.degrees.proofs.+degree_of_part.{statement}
 use Rattle.degrees.proofs.+degree_of_part.Tie.{close}
@@ -47,21 +48,33 @@ abbrev degree-of-part-below : ℕ → In 1 degree-of-part-kinds.ps
 degree-of-part-below t = and 1 degree-of-part-kinds.ps (falls 1 degree-of-part-kinds.ps _<_ μ-degree-of-part t) degree-of-part.Pre
 
 abbrev calls : ℕ → degree-of-part-lts.Claims
-calls t = (power-of-two-reads.Asked, power-of-two-reads.Learnt, degree-of-part-below t, degree-of-part.Post)
+calls t = (
+  counting-reads.Asked,
+  counting-reads.Learnt,
+  degree-of-eight-reads.Asked,
+  degree-of-eight-reads.Learnt,
+  power-of-two-reads.Asked,
+  power-of-two-reads.Learnt,
+  degree-of-part-below t,
+  degree-of-part.Post,
+)
 
 halves : (t : ℕ) (c : degree-of-part-lts.After-power-of-two (calls t) (degree-of-part-at t) degree-of-part.Post)
-    → Halved (c .before .before .before .before .before .before .args .q) (c .power-of-two .result)
-    (c .before .before .before .before .before .before .args .a .now)
-halves t c = halved _ _ _ (c .before .if2 .left) (c .power-of-two .ensures) (c .before .before .before .before .before .before .pre .1 .1)
+    → Halved (c .before .before .before .before .before .before .before .args .q) (c .power-of-two .result)
+    (c .before .before .before .before .before .before .before .args .a .now)
+halves t c = halved _ _ _ (c .before .before .if2 .left) (c .power-of-two .ensures) (c .before .before .before .before .before .before .before .pre .1 .1)
 
 degree-of-part-add-if1 : (t : ℕ) → degree-of-part-lts.Need-add-if1 (calls t) (degree-of-part-at t) degree-of-part.Post
 degree-of-part-add-if1 t c = search needs
 
-degree-of-part-shared-slice-read-if3 : (t : ℕ) → degree-of-part-lts.Need-shared-slice-read-if3 (calls t) (degree-of-part-at t) degree-of-part.Post
-degree-of-part-shared-slice-read-if3 t c =
-    let s = c .before .before .before .before .before .before in
-    let l : length (s .args .a .now) ≡ 1 = s .pre .1 .1 ∙ ap (λ (k : ℕ). 2 ^ k) (c .before .if2 .taken) in
-    omega arith
+degree-of-part-shared-slice-read-counting : (t : ℕ) → degree-of-part-lts.Need-shared-slice-read-counting (calls t) (degree-of-part-at t) degree-of-part.Post
+degree-of-part-shared-slice-read-counting t c = omega (arith, rw (c .before .if2 .taken) at (c .before .before .before .before .before .before .pre .1 .1))
+
+degree-of-part-counting-requires : (t : ℕ) → degree-of-part-lts.Need-counting-requires (calls t) (degree-of-part-at t) degree-of-part.Post
+degree-of-part-counting-requires t c κs = search needs
+
+degree-of-part-degree-of-eight-requires : (t : ℕ) → degree-of-part-lts.Need-degree-of-eight-requires (calls t) (degree-of-part-at t) degree-of-part.Post
+degree-of-part-degree-of-eight-requires t c κs = (omega arith, rw (c .if3 .taken) at (c .before .before .before .before .before .before .pre .1 .1))
 
 degree-of-part-sub-p : (t : ℕ) → degree-of-part-lts.Need-sub-p (calls t) (degree-of-part-at t) degree-of-part.Post
 degree-of-part-sub-p t c = search needs
@@ -99,22 +112,24 @@ degree-of-part-returns t c =
     omega (arith, part-most (a .q) (a .d .0) (a .a .now))
 
 degree-of-part-returns-2 : (t : ℕ) → degree-of-part-lts.Need-returns-2 (calls t) (degree-of-part-at t) degree-of-part.Post
-degree-of-part-returns-2 t c = rw (c .before .before .if2 .taken, part-single, eq-eqb _ _ (c .if3 .taken)) (omega arith)
+degree-of-part-returns-2 t c = rw (c .before .before .if2 .taken, part-single) (c .counting .ensures)
 
 degree-of-part-returns-3 : (t : ℕ) → degree-of-part-lts.Need-returns-3 (calls t) (degree-of-part-at t) degree-of-part.Post
-degree-of-part-returns-3 t c = rw (c .before .before .if2 .taken, part-single, ne-eqb _ _ (c .if3 .left)) (omega arith)
+degree-of-part-returns-3 t c = rw (c .before .if3 .taken) (c .degree-of-eight .ensures)
 
 degree-of-part-returns-4 : (t : ℕ) → degree-of-part-lts.Need-returns-4 (calls t) (degree-of-part-at t) degree-of-part.Post
 degree-of-part-returns-4 t c =
     let parts = c .before .before .before .before .before in
-    omega (arith, halves t parts .both (parts .before .before .before .before .before .before .args .d .0), c .before .before .degree-of-part .ensures, c .degree-of-part2 .ensures)
+    omega (arith, halves t parts .both (parts .before .before .before .before .before .before .before .args .d .0), c .before .before .degree-of-part .ensures, c .degree-of-part2 .ensures)
 
 pub +degree-of-part-spec : {M : Type 1} → statement M
 +degree-of-part-spec = close μ-degree-of-part λ t. degree-of-part-lts.spec (calls t)
     (degree-of-part-at t)
     degree-of-part.Post
     (degree-of-part-add-if1 t)
-    (degree-of-part-shared-slice-read-if3 t)
+    (degree-of-part-shared-slice-read-counting t)
+    (degree-of-part-counting-requires t)
+    (degree-of-part-degree-of-eight-requires t)
     (degree-of-part-sub-p t)
     (degree-of-part-power-of-two-requires t)
     (degree-of-part-add-t17 t)
