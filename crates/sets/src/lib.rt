@@ -3,7 +3,7 @@
 ghost use mathlib.Core.Path.{_≡_};
 ghost use Prim.Native.Nat.{_<_};
 ghost use Rattle.definitions.specs.Sets.{size};
-ghost use Rattle.sets.specs.Sizes.{codeLimit, SizeOfByte, ByteSizes};
+ghost use Rattle.sets.specs.Sizes.{codeLimit, SizeOfByte};
 
 // 01's code of a set, the source's h.
 pub struct SetCode(pub usize);
@@ -271,13 +271,6 @@ const SIZES: [u8; 256] = [
     8,
 ];
 
-// The table itself, for many lookups: a lookup in the constant makes a copy of it, and this is the only one.
-pub fn byte_sizes() -> [u8; 256]
-    ensures { λ r. ⌜ ByteSizes r ⌝ }
-{
-    SIZES
-}
-
 fn wide(x: u8) -> usize
     ensures { λ r. ⌜ r ≡ x ⌝ }
 {
@@ -301,18 +294,5 @@ impl SetCode {
         SetSize(
             size_of_byte(code / 65536) + size_of_byte(code / 256 % 256) + size_of_byte(code % 256),
         )
-    }
-
-    // The same by a copy of the table.
-    pub fn size_by(self, sizes: &[u8; 256]) -> SetSize
-        requires { ⌜ self .0 < codeLimit ⌝ }
-        requires { ⌜ ByteSizes (now sizes) ⌝ }
-        ensures { λ r. ⌜ r .0 ≡ size (self .0) ⌝ }
-    {
-        let c = self.0;
-        let high = c / 65536;
-        let middle = c / 256 % 256;
-        let low = c % 256;
-        SetSize(wide(sizes[high]) + wide(sizes[middle]) + wide(sizes[low]))
     }
 }
