@@ -20,5 +20,6 @@ pub mod Degree
 pub mod Transform
 pub mod Pairs
 pub mod Passes
+pub mod PassLoops
 pub mod Convolution
 pub mod Partitions
