@@ -3,59 +3,100 @@
 --   Passing    over the blocks of a table, each lent to a loop of the first kind: passing-start, passing-turn, passing-end;
 --              passing-length and block-fits for its indices, lent-size and lent-below for the block that is lent
 use mathlib.Core.Path.{_≡_, sym, ap, ap₂, _∙_}
+use mathlib.Core.Bool.{cond}
 use mathlib.Core.List.{List, _++_}
+use mathlib.Core.Logic.{_≢_, ⊎-elim}
 use Prim.Native.Nat.{ℕ, suc, _+_, _-_, _*_, _^_, _<_, _≤_}
 use native.Mathlib.Nat.{mul-le-mul-right, zero-mul}
 use native.Mathlib.Omega.{arith}
+use lib.Dec.{ltb}
 use lib.ListN.{length, take, drop, set, length-drop, length-set}
 use lib.Pow.{pow-add}
 use lib.Seq.{getD-take, getD-drop, length-take-le, drop-drop}
+use borrow.Author.Tests.{lt-ltb, le-ltb}
 use borrow.Rule.Slice.PartMut.{putMid}
 use Rattle.definitions.specs.Sums.{tabulate, at}
-use Rattle.theory.specs.Lists.{filled, filled-none, filled-block, filled-all, length-filled, at-filled}
+use Rattle.theory.specs.Tests.{below-or}
+use Rattle.theory.specs.Lists.{tabulate-ext, tabulate-of, tabulate-append, set-tabulate, at-tabulate, filled, filled-none, filled-block, filled-all, length-filled, at-filled}
 use Rattle.theory.specs.Entries.{at-below, below-anywhere}
-use Rattle.theory.specs.Passes.{pass, pass-block, crossed, crossing, crossing-none, crossing-all, crossing-lower, crossing-upper, crossing-more}
+use Rattle.theory.specs.Passes.{pass, pass-block, crossed}
 
 -- ---- over a block
+
+-- one more turn changes the test of its own place only
+other-test : (j t : ℕ) → j ≢ t → ltb j t ≡ ltb j (t + 1)
+other-test j t d = ⊎-elim (λ (h : j < t). lt-ltb j t h ∙ sym (lt-ltb j (t + 1) (omega arith)))
+    (λ (h : t ≤ j). le-ltb j t h ∙ sym (le-ltb j (t + 1) (omega arith))) (below-or j t)
+
+-- what stands at j in the block xs when s entries of its lower half and t of its upper half are done
+abbrev crossingAt : (ℕ → ℕ → ℕ) → (ℕ → ℕ → ℕ) → ℕ → List ℕ → ℕ → ℕ → ℕ → ℕ
+crossingAt p q half xs s t j =
+    cond (ltb j half) (cond (ltb j s) (p (at xs j) (at xs (half + j))) (at xs j)) (cond (ltb j (half + t)) (q (at xs (j - half)) (at xs j)) (at xs j))
 
 -- l is what is left of the block xs after t turns
 pub record Crossing (p q : ℕ → ℕ → ℕ) (half : ℕ) (xs : List ℕ) (t : ℕ) (l : List ℕ) : Type 0 where
   pub within : t ≤ half
   pub size : length xs ≡ half + half
   pub long : length l ≡ half + half
-  pub is : l ≡ crossing p q half xs t
+  pub is : l ≡ tabulate (half + half) (crossingAt p q half xs t t)
 
-module _ {p q : ℕ → ℕ → ℕ} {half : ℕ} where
-  pub crossing-start : {xs : List ℕ} → length xs ≡ half + half → Crossing p q half xs 0 xs
-  crossing-start {xs} e = record { within = omega arith; size = e; long = e; is = crossing-none p q half xs }
+module _ {p q : ℕ → ℕ → ℕ} {half : ℕ} {xs : List ℕ} where
+  pub crossing-start : length xs ≡ half + half → Crossing p q half xs 0 xs
+  crossing-start e =
+      record {
+        within = omega arith;
+        size = e;
+        long = e;
+        is = tabulate-of (half + half) xs _ e (λ j k. sym (⊎-elim
+            (λ (h : j < half). simp (lt-ltb j half h, le-ltb j 0 (omega arith)))
+            (λ (h : half ≤ j). simp (le-ltb j half h, le-ltb j (half + 0) (omega arith))) (below-or j half)));
+      }
 
-  pub crossing-end : {xs : List ℕ} {t : ℕ} {l : List ℕ} → Crossing p q half xs t l → half ≤ t → l ≡ crossed p q half xs
-  crossing-end {xs} {t} h e =
-      let all : t ≡ half = omega (arith, h .within) in
-      h .is ∙ ap (crossing p q half xs) all ∙ crossing-all p q half xs (h .size)
+  module _ {t : ℕ} {l : List ℕ} (h : Crossing p q half xs t l) where
+    abbrev entry : ℕ → ℕ → ℕ → ℕ
+    entry = crossingAt p q half xs
 
-  module _ {xs : List ℕ} {t : ℕ} {l : List ℕ} (h : Crossing p q half xs t l) (more : t < half) where
-    -- what the turn reads
-    pub lower-read : at l t ≡ at xs t
-    lower-read = ap (λ (k : List ℕ). at k t) (h .is) ∙ crossing-lower p q half xs (h .size) t more
+    pub crossing-end : half ≤ t → l ≡ crossed p q half xs
+    unfolding crossed
+    crossing-end e =
+        let all : t ≡ half = omega (arith, h .within) in
+        h .is ∙ ap (λ (k : ℕ). tabulate (half + half) (entry k k)) all ∙ tabulate-append half half (entry half half)
+        ∙ ap₂ _++_ (tabulate-ext half _ _ (λ j k. simp (lt-ltb j half k)))
+        (tabulate-ext half _ _ (λ j k.
+        let back : half + j - half ≡ j = omega arith in
+        simp (le-ltb (half + j) half (omega arith), lt-ltb (half + j) (half + half) (omega arith), back)))
 
-    pub upper-read : at l (half + t) ≡ at xs (half + t)
-    upper-read = ap (λ (k : List ℕ). at k (half + t)) (h .is) ∙ crossing-upper p q half xs (h .size) t more
+    module _ (more : t < half) where
+      -- what the turn reads
+      pub lower-read : at l t ≡ at xs t
+      lower-read =
+          ap (λ (k : List ℕ). at k t) (h .is) ∙ at-tabulate (half + half) (entry t t) t (omega arith)
+          ∙ simp (lt-ltb t half more, le-ltb t t (omega arith))
 
-    -- what it stores
-    pub crossing-turn : {v w : ℕ} → v ≡ p (at l t) (at l (half + t)) → w ≡ q (at l t) (at l (half + t))
-        → Crossing p q half xs (t + 1) (set (set l t v) (half + t) w)
-    crossing-turn {v} {w} c d =
-        let x = at xs t in
-        let y = at xs (half + t) in
-        record {
-          within = omega arith;
-          size = h .size;
-          long = length-set (set l t v) (half + t) w ∙ length-set l t v ∙ h .long;
-          is = ap₂ (λ (x y : ℕ). set (set l t x) (half + t) y) (c ∙ ap₂ p lower-read upper-read) (d ∙ ap₂ q lower-read upper-read)
-              ∙ ap (λ (k : List ℕ). set (set k t (p x y)) (half + t) (q x y)) (h .is)
-              ∙ crossing-more p q half xs (h .size) t more;
-        }
+      pub upper-read : at l (half + t) ≡ at xs (half + t)
+      upper-read =
+          ap (λ (k : List ℕ). at k (half + t)) (h .is) ∙ at-tabulate (half + half) (entry t t) (half + t) (omega arith)
+          ∙ simp (le-ltb (half + t) half (omega arith), le-ltb (half + t) (half + t) (omega arith))
+
+      -- what it stores
+      pub crossing-turn : {v w : ℕ} → v ≡ p (at l t) (at l (half + t)) → w ≡ q (at l t) (at l (half + t))
+          → Crossing p q half xs (t + 1) (set (set l t v) (half + t) w)
+      crossing-turn {v} {w} c d =
+          let back : half + t - half ≡ t = omega arith in
+          let next : half + t + 1 ≡ half + (t + 1) = omega arith in
+          record {
+            within = omega arith;
+            size = h .size;
+            long = length-set (set l t v) (half + t) w ∙ length-set l t v ∙ h .long;
+            is = ap (λ (k : List ℕ). set (set k t v) (half + t) w) (h .is)
+                ∙ ap (λ (k : List ℕ). set k (half + t) w)
+                (set-tabulate (half + half) (entry t t) (entry (t + 1) t) t v (omega arith)
+                (c ∙ ap₂ p lower-read upper-read ∙ sym (simp (lt-ltb t half more, lt-ltb t (t + 1) (omega arith)))) (λ j k e. rw (other-test j t e)))
+                ∙ set-tabulate (half + half) (entry (t + 1) t) (entry (t + 1) (t + 1)) (half + t) w (omega arith)
+                (d ∙ ap₂ q lower-read upper-read
+                ∙ sym (simp (le-ltb (half + t) half (omega arith), lt-ltb (half + t) (half + (t + 1)) (omega arith), back)))
+                (λ j k e. rw (other-test j (half + t) e, next));
+          }
 
 -- ---- over the blocks of a table
 
