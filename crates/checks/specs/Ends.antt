@@ -1,10 +1,11 @@
 -- How a call ends: the pad that it worked in, and what it answers for an `Accepted` or a `Refused`.
 --   Lent, used-in, part-long     a call lends the part of its pad that it may use, or the front of that part, to a worker
+--   table-fits                   a table is such a front
 --   clear-fits, front-cleared    whatever the worker left there, clearing the part makes it what 01 promises
 --   accepted-call, refused-call  number, result and pad; refused-result without the pad
 use mathlib.Core.Path.{_≡_, sym, ap, _∙_}
 use mathlib.Core.List.{List, _++_}
-use Prim.Native.Nat.{ℕ, _+_, _-_, _≤_}
+use Prim.Native.Nat.{ℕ, _+_, _-_, _^_, _≤_}
 use native.Mathlib.Omega.{arith}
 use lib.ListN.{length, take, drop}
 use lib.Seq.{length-take-le, length-front, drop-at, drop-drop}
@@ -22,6 +23,10 @@ use Rattle.checks.specs.declared.Checked.the-variants.{Accepted, Refused
 pub record Lent (n used : ℕ) (pad : List ℕ) : Type 0 where
   pub used-is : used ≡ padLength n
   pub room : padLength n ≤ length pad
+
+pub table-fits : (n : ℕ) → 2 ^ n ≤ padLength n
+unfolding padLength
+table-fits n = omega arith
 
 module _ {n used : ℕ} {pad : List ℕ} (h : Lent n used pad) where
   pub used-in : used ≤ length pad

@@ -21,5 +21,6 @@ pub mod Degree
 pub mod Transform
 pub mod Pairs
 pub mod Passes
+pub mod PassLoops
 pub mod Convolution
 pub mod Partitions
