@@ -4,12 +4,10 @@
 // entry is made of and ends with what it becomes.
 ghost use mathlib.Core.Path.{_≡_};
 ghost use Prim.Native.Nat.{_+_, _-_, _*_, _^_, _<_, _≤_, min};
-ghost use Rattle.definitions.specs.Limits.{mostControls};
 ghost use Rattle.definitions.specs.Sets.{size};
 ghost use Rattle.residues.specs.Moduli.{Valid, Residue};
 ghost use Rattle.ranked_theory.specs.Rows.{Added, Subtracted, RowStep, RowReady, RowsStep, RowsReady, backFrom, backCount, coefficient, RanksBelow, RowOfResidues, Multiplied};
 ghost use Rattle.ranked_theory.specs.Layout.{width, rowsLength, place, resultPlace};
-ghost use Rattle.ranked_theory.specs.Back.{BackReady, BackStep};
 pub use pads::power_of_two;
 use ranked_runs::add_run;
 use ranked_runs::store_pair;
@@ -60,9 +58,9 @@ pub fn result_place(n: usize, h: SetCode) -> usize
 // so each rank stands two places on there; it has nothing at the lowest rank yet, so that is stored.
 fn add_row(modulus: Modulus, d: SetSize, w: usize, mid: usize, u: SetCode, rows: &mut [u32])
     requires { ⌜ Valid modulus ⌝ }
-    requires { ⌜ RowReady (modulus .value) 2 0 (2 * d .0) w mid (u .0 * w) (now rows) ⌝ }
+    requires { ⌜ RowReady (modulus .value) 2 0 (2 * d .0) w mid (u .0) (now rows) ⌝ }
     requires { ⌜ 2 * d .0 + 4 ≤ w ⌝ }
-    ensures { λ _. ⌜ RowStep (Added (modulus .value) (d .0)) 2 w mid (u .0 * w) (now (rows .entry)) (now (rows .exit)) ⌝ }
+    ensures { λ _. ⌜ RowStep (Added (modulus .value) (d .0)) 2 w mid (u .0) (now (rows .entry)) (now (rows .exit)) ⌝ }
 {
     let low = u.0 * w;
     let high = mid + low + 2;
@@ -87,94 +85,28 @@ pub fn add_lower(modulus: Modulus, p: usize, d: SetSize, w: usize, rows: &mut [u
     }
 }
 
-// Step 2 for the row at low, whose set has the size |h|: from |h| to |h| + e, and none past 2 |h|. The lowest of these ranks stands
-// last but one in its row and last in the row above.
+// Step 2 for one row u of the lower half, whose set has the size |h|: from |h| to |h| + e, and none past 2 |h|. The lowest of these ranks
+// stands last but one in its row and last in the row above.
 fn subtract_row(
     modulus: Modulus,
     size: SetSize,
     e: SetSize,
     w: usize,
     mid: usize,
-    low: usize,
+    u: SetCode,
     rows: &mut [u32],
 )
     requires { ⌜ Valid modulus ⌝ }
-    requires { ⌜ RowReady (modulus .value) 1 (backFrom w (e .0) (size .0)) (backCount (e .0) (size .0)) w mid low (now rows) ⌝ }
-    ensures { λ _. ⌜ RowStep (Subtracted (modulus .value) w (e .0) (size .0)) 1 w mid low (now (rows .entry)) (now (rows .exit)) ⌝ }
+    requires { ⌜ RowReady (modulus .value) 1 (backFrom w (e .0) (size .0)) (backCount (e .0) (size .0)) w mid (u .0) (now rows) ⌝ }
+    ensures { λ _. ⌜ RowStep (Subtracted (modulus .value) w (e .0) (size .0)) 1 w mid (u .0) (now (rows .entry)) (now (rows .exit)) ⌝ }
 {
     let more = lesser(e, size);
-    let first = low + (w - 2 - more.0);
+    let first = u.0 * w + (w - 2 - more.0);
     subtract_run(modulus, first, mid + first + 1, more.0 + 1, rows);
 }
 
-// Two rows: the second one's set has one control more.
-fn subtract_two(
-    modulus: Modulus,
-    d: SetSize,
-    e: SetSize,
-    w: usize,
-    mid: usize,
-    low: usize,
-    rows: &mut [u32],
-)
-    requires { ⌜ Valid modulus ⌝ }
-    requires { ⌜ BackReady (modulus .value) w (e .0) (d .0) mid low 1 (now rows) ⌝ }
-    requires { ⌜ d .0 ≤ mostControls ⌝ }
-    ensures { λ _. ⌜ BackStep (modulus .value) w (e .0) (d .0) mid low 1 (now (rows .entry)) (now (rows .exit)) ⌝ }
-{
-    subtract_row(modulus, d, e, w, mid, low, rows);
-    subtract_row(modulus, SetSize(d.0 + 1), e, w, mid, low + w, rows);
-}
-
-// Four rows.
-fn subtract_four(
-    modulus: Modulus,
-    d: SetSize,
-    e: SetSize,
-    w: usize,
-    mid: usize,
-    low: usize,
-    rows: &mut [u32],
-)
-    requires { ⌜ Valid modulus ⌝ }
-    requires { ⌜ BackReady (modulus .value) w (e .0) (d .0) mid low 2 (now rows) ⌝ }
-    requires { ⌜ d .0 < mostControls ⌝ }
-    ensures { λ _. ⌜ BackStep (modulus .value) w (e .0) (d .0) mid low 2 (now (rows .entry)) (now (rows .exit)) ⌝ }
-{
-    subtract_two(modulus, d, e, w, mid, low, rows);
-    subtract_two(modulus, SetSize(d.0 + 1), e, w, mid, low + 2 * w, rows);
-}
-
-// Step 2 for the 2^p rows from low on, whose codes share d controls above the low p, by their halves: so the sizes are known. Four rows
-// are worked without a call for each.
-fn subtract_part(
-    modulus: Modulus,
-    p: usize,
-    d: SetSize,
-    e: SetSize,
-    w: usize,
-    mid: usize,
-    low: usize,
-    rows: &mut [u32],
-)
-    requires { ⌜ Valid modulus ⌝ }
-    requires { ⌜ BackReady (modulus .value) w (e .0) (d .0) mid low p (now rows) ⌝ }
-    requires { ⌜ d .0 + p ≤ mostControls ⌝ }
-    ensures { λ _. ⌜ BackStep (modulus .value) w (e .0) (d .0) mid low p (now (rows .entry)) (now (rows .exit)) ⌝ }
-{
-    if p == 0 {
-        subtract_row(modulus, d, e, w, mid, low, rows);
-    } else if p == 2 {
-        subtract_four(modulus, d, e, w, mid, low, rows);
-    } else {
-        let q = p - 1;
-        let half = power_of_two(q) * w;
-        subtract_part(modulus, q, d, e, w, mid, low, rows);
-        subtract_part(modulus, q, SetSize(d.0 + 1), e, w, mid, low + half, rows);
-    }
-}
-
-// Step 2: each row of the upper half loses the row of the lower half.
+// Step 2: each row of the upper half loses the row of the lower half. The sizes |u| are counted on from row to row, which is cheaper
+// than to look them up.
 pub fn subtract_lower(
     modulus: Modulus,
     p: usize,
@@ -185,11 +117,18 @@ pub fn subtract_lower(
 )
     requires { ⌜ Valid modulus ⌝ }
     requires { ⌜ RowsReady (modulus .value) 1 (λ u. backFrom w (e .0) (size u + d .0)) (λ u. backCount (e .0) (size u + d .0)) w p (now rows) ⌝ }
-    requires { ⌜ d .0 + p ≤ mostControls ⌝ }
+    requires { ⌜ d .0 ≤ 16 ⌝ }
     ensures { λ _. ⌜ RowsStep (λ u. Subtracted (modulus .value) w (e .0) (size u + d .0)) 1 w (2 ^ p * w) (2 ^ p) (now (rows .entry)) (now (rows .exit)) ⌝ }
 {
-    let mid = power_of_two(p) * w;
-    subtract_part(modulus, p, d, e, w, mid, 0, rows);
+    let half = power_of_two(p);
+    let mid = half * w;
+    let mut low = SetSize(0);
+    let mut u = 0;
+    while u < half {
+        subtract_row(modulus, SetSize(low.0 + d.0), e, w, mid, SetCode(u), rows);
+        low = SetCode(u).next_size(low);
+        u += 1;
+    }
 }
 
 // Rank d + e of the product of a row's factors, neither of which goes above d. Two products are added at a time.

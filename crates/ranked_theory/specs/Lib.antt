@@ -7,7 +7,6 @@ pub mod Layout
 pub mod Recursion
 pub mod Runs
 pub mod RowSteps
-pub mod Back
 pub mod Levels
 pub mod Leaf
 pub mod Halves

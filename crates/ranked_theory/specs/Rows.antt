@@ -72,20 +72,19 @@ pub record Subtracted (m w e s r x y z : ℕ) : Type 0 where
   pub within : w ≤ r + min e s + 1 → z ≡ minus m x y
   pub without : r + min e s + 1 < w → z ≡ x
 
--- the row mid past the one at low becomes at each place r what P says of that place and of the place shift before it in the row at low,
--- and nothing else changes
-pub record RowStep (P : ℕ → ℕ → ℕ → ℕ → Type 0) (shift w mid low : ℕ) (xs ys : List ℕ) : Type 0 where
-  pub here : (r : ℕ) → r < w → P r (at xs (mid + (low + r))) (at xs (low + (r - shift))) (at ys (mid + (low + r)))
-  pub elsewhere : (j : ℕ) → (j < mid + low) ⊎ (mid + (low + w) ≤ j) → at ys j ≡ at xs j
+-- the row mid past row u becomes at each place r what P says of that place and of the place shift before it in row u, and nothing
+-- else changes
+pub record RowStep (P : ℕ → ℕ → ℕ → ℕ → Type 0) (shift w mid u : ℕ) (xs ys : List ℕ) : Type 0 where
+  pub here : (r : ℕ) → r < w → P r (at xs (mid + (u * w + r))) (at xs (u * w + (r - shift))) (at ys (mid + (u * w + r)))
+  pub elsewhere : (j : ℕ) → (j < mid + u * w) ⊎ (mid + (u * w + w) ≤ j) → at ys j ≡ at xs j
 
--- the row at low and the row mid past it are in the list; the first has residues at count places from lo on, and the other one shift
--- past them
-pub record RowReady (m shift lo count w mid low : ℕ) (xs : List ℕ) : Type 0 where
+-- row u and the row mid past it are in the list; row u has residues at count places from lo on, and the other one shift past them
+pub record RowReady (m shift lo count w mid u : ℕ) (xs : List ℕ) : Type 0 where
   pub row : lo + shift + count ≤ w
-  pub lower : low + w ≤ mid
-  pub upper : mid + (low + w) ≤ length xs
-  pub lower-below : (r : ℕ) → lo ≤ r → r < lo + count → at xs (low + r) < m
-  pub upper-below : (r : ℕ) → lo + shift ≤ r → r < lo + shift + count → at xs (mid + (low + r)) < m
+  pub lower : u * w + w ≤ mid
+  pub upper : mid + (u * w + w) ≤ length xs
+  pub lower-below : (r : ℕ) → lo ≤ r → r < lo + count → at xs (u * w + r) < m
+  pub upper-below : (r : ℕ) → lo + shift ≤ r → r < lo + shift + count → at xs (mid + (u * w + r)) < m
 
 -- ---- the rows of the upper half, each over its row of the lower half
 

@@ -1,7 +1,7 @@
 // Sets of controls by their codes, and how many controls a code has. A code and a size are kinds of their own, so that one
 // is never taken for the other.
 ghost use mathlib.Core.Path.{_≡_};
-ghost use Prim.Native.Nat.{_<_};
+ghost use Prim.Native.Nat.{_+_, _<_};
 ghost use Rattle.definitions.specs.Sets.{size};
 ghost use Rattle.sets.specs.Sizes.{codeLimit, SizeOfByte};
 
@@ -294,5 +294,16 @@ impl SetCode {
         SetSize(
             size_of_byte(code / 65536) + size_of_byte(code / 256 % 256) + size_of_byte(code % 256),
         )
+    }
+
+    // The size of the next code, from its own size: where one is added, the ones at the end become zeros and the zero above them a
+    // one. A loop over all codes asks this, and looks no size up.
+    pub fn next_size(self, own: SetSize) -> SetSize
+        requires { ⌜ self .0 < codeLimit ⌝ }
+        requires { ⌜ own .0 ≡ size (self .0) ⌝ }
+        ensures { λ r. ⌜ r .0 ≡ size (self .0 + 1) ⌝ }
+    {
+        let next = self.0 + 1;
+        SetSize(own.0 + 1 - (usize::trailing_zeros(next) as usize))
     }
 }

@@ -8,6 +8,9 @@ use Rattle.ranked_rows.proofs.subtract_row.Tie as tie
 lesser-requires : tie.Need-lesser-requires
 lesser-requires c κs = search needs
 
+mul-first : tie.Need-mul-first
+mul-first c = search needs
+
 -- the ranks that are taken are places of the row
 sub-first : tie.Need-sub-first
 sub-first c = search needs
@@ -29,8 +32,8 @@ add-subtract-run-3 c = search needs
 
 subtract-run-requires : tie.Need-subtract-run-requires
 subtract-run-requires c κs =
-    let s = c .before .before .before .before .before in
-    let more = c .before .before .before .lesser .ensures in
+    let s = c .before .before .before .before .before .before in
+    let more = c .before .before .before .before .lesser .ensures in
     (s .pre .0, rows.run-ready _ 1 _ _ _ _ _ _ _ _ _ _ (s .pre .1) refl (omega arith) (omega (arith, s .pre .1 .row, more)) (omega (arith, s .pre .1 .row, more)))
 
 same-length : tie.Need-same-length
@@ -38,14 +41,15 @@ same-length c = search needs
 
 returns : tie.Need-returns
 returns c =
-    let s = c .before .before .before .before .before .before .before .before in
-    rows.subtract-row _ _ _ _ _ _ _ _ (s .pre .1) (c .before .before .before .before .before .before .lesser .ensures) _ _ _ refl refl (c .before .before .subtract-run .ensures)
+    let s = c .before .before .before .before .before .before .before .before .before in
+    rows.subtract-row _ _ _ _ _ _ _ _ (s .pre .1) (c .before .before .before .before .before .before .before .lesser .ensures) _ _ _ refl refl (c .before .before .subtract-run .ensures)
 
 pub subtract-row-spec : {M : Type 1} → statement M
 subtract-row-spec =
     tie.close
     (tie.spec
     lesser-requires
+    mul-first
     sub-first
     sub-first-2
     add-first
