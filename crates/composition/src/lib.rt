@@ -15,45 +15,45 @@ use ranked_within::rows_length;
 use residues::Modulus;
 
 // The table of so many numbers at one place of the workspace also stands at another: the same place, or one behind it.
-fn copy_table(size: usize, source: usize, target: usize, work: &mut [u32])
-    requires { ⌜ CopyReady size source target (now work) ⌝ }
-    ensures { λ _. ⌜ Copied size source target (now (work .entry)) (now (work .exit)) ⌝ }
+fn copy_table(size: usize, source: usize, target: usize, workspace: &mut [u32])
+    requires { ⌜ CopyReady size source target (now workspace) ⌝ }
+    ensures { λ _. ⌜ Copied size source target (now (workspace .entry)) (now (workspace .exit)) ⌝ }
 {
     let mut i = 0;
     while i < size {
         let from = source + i;
         let to = target + i;
-        work[to] = work[from];
+        workspace[to] = workspace[from];
         i += 1;
     }
 }
 
 // Table i of k + 1 controls, in slots 2i and 2i + 1 from `start` on: its lower half is table i of k controls, its upper half the
 // product of table i + 1 and of a's entries with control k alone of the controls from k on.
-fn next_table(k: usize, i: usize, modulus: Modulus, start: usize, a: &[u32], work: &mut [u32])
+fn next_table(k: usize, i: usize, modulus: Modulus, start: usize, a: &[u32], workspace: &mut [u32])
     requires { ⌜ Valid modulus ⌝ }
-    requires { ⌜ TurnReady k i (modulus .value) start (now a) (now work) ⌝ }
-    ensures { λ _. ⌜ Turned k i (modulus .value) (now (a .entry)) (drop start (now (work .entry))) (drop start (now (work .exit))) ⌝ }
+    requires { ⌜ TurnReady k i (modulus .value) start (now a) (now workspace) ⌝ }
+    ensures { λ _. ⌜ Turned k i (modulus .value) (now (a .entry)) (drop start (now (workspace .entry))) (drop start (now (workspace .exit))) ⌝ }
 {
     let size = power_of_two(k);
     let shift = i * size;
     let slot = start + shift;
     let next = slot + size;
     let a_end = size + size;
-    multiply_within(k, modulus, next, next + shift, &a[size..a_end], work);
-    copy_table(size, slot, slot + shift, work);
+    multiply_within(k, modulus, next, next + shift, &a[size..a_end], workspace);
+    copy_table(size, slot, slot + shift, workspace);
 }
 
 // The tables of k + 1 controls from those of k, the last one first: so no slot is overwritten before it is read.
-fn next_level(n: usize, k: usize, modulus: Modulus, start: usize, a: &[u32], work: &mut [u32])
+fn next_level(n: usize, k: usize, modulus: Modulus, start: usize, a: &[u32], workspace: &mut [u32])
     requires { ⌜ Valid modulus ⌝ }
-    requires { ⌜ LevelReady n k (modulus .value) start (now a) (now work) ⌝ }
-    ensures { λ _. ⌜ LevelRaised n k (modulus .value) (now (a .entry)) (drop start (now (work .entry))) (drop start (now (work .exit))) ⌝ }
+    requires { ⌜ LevelReady n k (modulus .value) start (now a) (now workspace) ⌝ }
+    ensures { λ _. ⌜ LevelRaised n k (modulus .value) (now (a .entry)) (drop start (now (workspace .entry))) (drop start (now (workspace .exit))) ⌝ }
 {
     let mut i = n - k;
     while 0 < i {
         i -= 1;
-        next_table(k, i, modulus, start, a, work);
+        next_table(k, i, modulus, start, a, workspace);
     }
 }
 
@@ -71,26 +71,26 @@ fn copy_entries(count: usize, from: &[u32], to: &mut [u32])
 
 // The composition of a table of n controls with a row. At level k there are n - k + 1 tables of the first k controls side by side;
 // table i is the composition with the row from its entry i on. The table's first entry is not read.
-pub fn composition_table(n: usize, modulus: Modulus, a: &[u32], f: &[u32], work: &mut [u32])
+pub fn composition_table(n: usize, modulus: Modulus, a: &[u32], f: &[u32], workspace: &mut [u32])
     requires { ⌜ Valid modulus ⌝ }
-    requires { ⌜ Ready n (modulus .value) (now a) (now work) ⌝ }
+    requires { ⌜ Ready n (modulus .value) (now a) (now workspace) ⌝ }
     requires { ⌜ RowReady n (modulus .value) (now f) ⌝ }
-    ensures { λ _. ⌜ resultIn n (now (work .exit)) ≡ compositionTable n (modulus .value) (now (f .entry)) (now (a .entry)) ⌝ }
+    ensures { λ _. ⌜ resultIn n (now (workspace .exit)) ≡ compositionTable n (modulus .value) (now (f .entry)) (now (a .entry)) ⌝ }
 {
     let start = rows_length(n);
-    copy_entries(n + 1, f, &mut work[start..]);
+    copy_entries(n + 1, f, &mut workspace[start..]);
     let mut k = 0;
     while k < n {
-        next_level(n, k, modulus, start, a, work);
+        next_level(n, k, modulus, start, a, workspace);
         k += 1;
     }
 }
 
 // The table that the composition has left in the workspace, copied to a result.
-pub fn take_result(n: usize, work: &[u32], result: &mut [u32])
-    requires { ⌜ ResultReady n (now work) (now result) ⌝ }
-    ensures { λ _. ⌜ now (result .exit) ≡ resultIn n (now (work .entry)) ⌝ }
+pub fn take_result(n: usize, workspace: &[u32], result: &mut [u32])
+    requires { ⌜ ResultReady n (now workspace) (now result) ⌝ }
+    ensures { λ _. ⌜ now (result .exit) ≡ resultIn n (now (workspace .entry)) ⌝ }
 {
     let start = rows_length(n);
-    copy_entries(result.len(), &work[start..], result);
+    copy_entries(result.len(), &workspace[start..], result);
 }

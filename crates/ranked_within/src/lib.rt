@@ -14,33 +14,33 @@ use residues::Modulus;
 use sets::SetCode;
 
 // Lays both factors out in the rows in front: the table at the place, and b.
-fn lay_within(k: usize, source: usize, b: &[u32], work: &mut [u32])
-    requires { ⌜ Place k source (now work) ⌝ }
+fn lay_within(k: usize, source: usize, b: &[u32], workspace: &mut [u32])
+    requires { ⌜ Place k source (now workspace) ⌝ }
     requires { ⌜ length (now b) ≡ 2 ^ k ⌝ }
-    ensures { λ _. ⌜ LaidWithin k source (now (b .entry)) (now (work .entry)) (now (work .exit)) ⌝ }
+    ensures { λ _. ⌜ LaidWithin k source (now (b .entry)) (now (workspace .entry)) (now (workspace .exit)) ⌝ }
 {
     let mut h = 0;
     while h < b.len() {
         let from = source + h;
         let left = place(k, 0, SetCode(h));
         let right = place(k, 1, SetCode(h));
-        work[left] = work[from];
-        work[right] = b[h];
+        workspace[left] = workspace[from];
+        workspace[right] = b[h];
         h += 1;
     }
 }
 
 // The product, from the rows in front into the place.
-fn read_within(k: usize, target: usize, work: &mut [u32])
-    requires { ⌜ Place k target (now work) ⌝ }
-    ensures { λ _. ⌜ ReadWithin k target (now (work .entry)) (now (work .exit)) ⌝ }
+fn read_within(k: usize, target: usize, workspace: &mut [u32])
+    requires { ⌜ Place k target (now workspace) ⌝ }
+    ensures { λ _. ⌜ ReadWithin k target (now (workspace .entry)) (now (workspace .exit)) ⌝ }
 {
     let size = power_of_two(k);
     let mut h = 0;
     while h < size {
         let from = result_place(k, SetCode(h));
         let to = target + h;
-        work[to] = work[from];
+        workspace[to] = workspace[from];
         h += 1;
     }
 }
@@ -53,13 +53,13 @@ pub fn multiply_within(
     source: usize,
     target: usize,
     b: &[u32],
-    work: &mut [u32],
+    workspace: &mut [u32],
 )
     requires { ⌜ Valid modulus ⌝ }
-    requires { ⌜ WithinReady (modulus .value) k source target (now b) (now work) ⌝ }
-    ensures { λ _. ⌜ WithinMade (modulus .value) k source target (now (b .entry)) (now (work .entry)) (now (work .exit)) ⌝ }
+    requires { ⌜ WithinReady (modulus .value) k source target (now b) (now workspace) ⌝ }
+    ensures { λ _. ⌜ WithinMade (modulus .value) k source target (now (b .entry)) (now (workspace .entry)) (now (workspace .exit)) ⌝ }
 {
-    lay_within(k, source, b, work);
-    multiply_rows(k, modulus, work);
-    read_within(k, target, work);
+    lay_within(k, source, b, workspace);
+    multiply_rows(k, modulus, workspace);
+    read_within(k, target, workspace);
 }

@@ -43,22 +43,22 @@ fn inverse_row(modulus: Modulus, u: u32, start: usize) -> [u32; ROW_SPACE]
 
 // The logarithm of a table with first entry 1: the composition of its other sets with the row 0, 1, -1, 2!, -3!, .. It is left in the
 // workspace.
-pub fn logarithm_table(n: usize, modulus: Modulus, e: &[u32], work: &mut [u32])
+pub fn logarithm_table(n: usize, modulus: Modulus, e: &[u32], workspace: &mut [u32])
     requires { ⌜ Valid modulus ⌝ }
-    requires { ⌜ Ready n (modulus .value) (now e) (now work) ⌝ }
-    ensures { λ _. ⌜ resultIn n (now (work .exit)) ≡ logarithmOf n (modulus .value) (now (e .entry)) ⌝ }
+    requires { ⌜ Ready n (modulus .value) (now e) (now workspace) ⌝ }
+    ensures { λ _. ⌜ resultIn n (now (workspace .exit)) ≡ logarithmOf n (modulus .value) (now (e .entry)) ⌝ }
 {
     let row = inverse_row(modulus, 1, 1);
-    composition_table(n, modulus, e, &row, work);
+    composition_table(n, modulus, e, &row, workspace);
 }
 
 // The inverse of a table whose first entry has the reciprocal u. It is left in the workspace.
-pub fn inverse_table(n: usize, modulus: Modulus, u: u32, a: &[u32], work: &mut [u32])
+pub fn inverse_table(n: usize, modulus: Modulus, u: u32, a: &[u32], workspace: &mut [u32])
     requires { ⌜ Valid modulus ⌝ }
     requires { ⌜ u < modulus .value ⌝ }
-    requires { ⌜ Ready n (modulus .value) (now a) (now work) ⌝ }
-    ensures { λ _. ⌜ resultIn n (now (work .exit)) ≡ inverseOf n (modulus .value) u (now (a .entry)) ⌝ }
+    requires { ⌜ Ready n (modulus .value) (now a) (now workspace) ⌝ }
+    ensures { λ _. ⌜ resultIn n (now (workspace .exit)) ≡ inverseOf n (modulus .value) u (now (a .entry)) ⌝ }
 {
     let row = inverse_row(modulus, u, 0);
-    composition_table(n, modulus, a, &row, work);
+    composition_table(n, modulus, a, &row, workspace);
 }

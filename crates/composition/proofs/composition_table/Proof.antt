@@ -6,10 +6,10 @@ use Rattle.composition.proofs.composition_table.Statement.{statement}
 use Rattle.composition.proofs.composition_table.Tie as tie
 
 abbrev Inv-loop : tie.InvT-loop
-Inv-loop n modulus a f work₀ start k₀ work k = Composing n (modulus .value) start a f work₀ k work
+Inv-loop n modulus a f workspace₀ start k₀ workspace k = Composing n (modulus .value) start a f workspace₀ k workspace
 
 abbrev μ-loop : tie.MeasureT-loop
-μ-loop n modulus a f work₀ start k₀ work k = n - k
+μ-loop n modulus a f workspace₀ start k₀ workspace k = n - k
 
 rows-length-requires : tie.Need-rows-length-requires Inv-loop μ-loop
 rows-length-requires c κs = search needs
@@ -32,18 +32,18 @@ part-copy-entries-end c = search needs
 copy-entries-requires : tie.Need-copy-entries-requires Inv-loop μ-loop
 copy-entries-requires c κs =
     let s = c .before .before .before .before .before in
-    row-fits (s .args .n) (s .args .modulus .value) _ (now (s .args .a)) (now (s .args .f)) (now (s .args .work)) (c .before .rows-length .ensures) (s .pre .1 .0) (s .pre .1 .1)
+    row-fits (s .args .n) (s .args .modulus .value) _ (now (s .args .a)) (now (s .args .f)) (now (s .args .workspace)) (c .before .rows-length .ensures) (s .pre .1 .0) (s .pre .1 .1)
 
 loop-holds : tie.Need-loop-holds Inv-loop μ-loop
 loop-holds c =
     let s = c .before .before .before .before .before .before .before .before in
     let copied = c .before .before .copy-entries in
-    composing-first (s .args .n) (s .args .modulus .value) _ (now (s .args .a)) (now (s .args .f)) (now (s .args .work)) (c .before .before .before .before .rows-length .ensures) (s .pre .1 .0) (s .pre .1 .1) _ (copied .ensures) (copied .kept .1 .1 .0)
+    composing-first (s .args .n) (s .args .modulus .value) _ (now (s .args .a)) (now (s .args .f)) (now (s .args .workspace)) (c .before .before .before .before .rows-length .ensures) (s .pre .1 .0) (s .pre .1 .1) _ (copied .ensures) (copied .kept .1 .1 .0)
 
 next-level-requires : tie.Need-next-level-requires Inv-loop μ-loop
 next-level-requires c κs =
     let s = c .before .before .before .before .before .before .before .before .before .before .before in
-    (s .pre .0, level-ready (s .args .n) (s .args .modulus .value) _ (now (s .args .a)) (now (s .args .f)) (now (s .args .work)) (c .before .before .before .before .before .before .before .rows-length .ensures) (s .pre .1 .0) (s .pre .1 .1) _ _ _ (c .before .before .loop .inv) (c .before .loop-test .taken))
+    (s .pre .0, level-ready (s .args .n) (s .args .modulus .value) _ (now (s .args .a)) (now (s .args .f)) (now (s .args .workspace)) (c .before .before .before .before .before .before .before .rows-length .ensures) (s .pre .1 .0) (s .pre .1 .1) _ _ _ (c .before .before .loop .inv) (c .before .loop-test .taken))
 
 add-k : tie.Need-add-k Inv-loop μ-loop
 add-k c = search needs
@@ -55,7 +55,7 @@ loop-again : tie.Need-loop-again Inv-loop μ-loop
 loop-again c =
     let s = c .before .before .before .before .before .before .before .before .before .before .before .before .before .before in
     let made = c .before .before .next-level in
-    composing-more (s .args .n) (s .args .modulus .value) _ (now (s .args .a)) (now (s .args .f)) (now (s .args .work)) (c .before .before .before .before .before .before .before .before .before .before .rows-length .ensures) (s .pre .1 .0) (s .pre .1 .1) _ _ _ (c .before .before .before .before .before .loop .inv) _ (c .before .before .before .before .loop-test .taken) (made .ensures) (made .kept .1 .1 .1 .1 .1 .0)
+    composing-more (s .args .n) (s .args .modulus .value) _ (now (s .args .a)) (now (s .args .f)) (now (s .args .workspace)) (c .before .before .before .before .before .before .before .before .before .before .rows-length .ensures) (s .pre .1 .0) (s .pre .1 .1) _ _ _ (c .before .before .before .before .before .loop .inv) _ (c .before .before .before .before .loop-test .taken) (made .ensures) (made .kept .1 .1 .1 .1 .1 .0)
 
 same-length : tie.Need-same-length Inv-loop μ-loop
 same-length c = search needs
@@ -63,7 +63,7 @@ same-length c = search needs
 returns : tie.Need-returns Inv-loop μ-loop
 returns c =
     let s = c .before .before .before .before .before .before .before .before .before .before in
-    composed (s .args .n) (s .args .modulus .value) _ (now (s .args .a)) (now (s .args .f)) (now (s .args .work)) (c .before .before .before .before .before .before .rows-length .ensures) (s .pre .1 .0) (s .pre .1 .1) _ _ _ (c .before .loop .inv) (c .loop-test .left)
+    composed (s .args .n) (s .args .modulus .value) _ (now (s .args .a)) (now (s .args .f)) (now (s .args .workspace)) (c .before .before .before .before .before .before .rows-length .ensures) (s .pre .1 .0) (s .pre .1 .1) _ _ _ (c .before .loop .inv) (c .loop-test .left)
 
 pub composition-table-spec : {M : Type 1} → statement M
 composition-table-spec =

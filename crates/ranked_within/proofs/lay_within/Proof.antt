@@ -13,10 +13,10 @@ use Rattle.ranked_within.proofs.lay_within.Statement.{statement}
 use Rattle.ranked_within.proofs.lay_within.Tie as tie
 
 abbrev Inv-loop : tie.InvT-loop
-Inv-loop k source b work₀ h₀ work h = LayingBoth k (tableAt k source work₀) b work₀ work h
+Inv-loop k source b workspace₀ h₀ workspace h = LayingBoth k (tableAt k source workspace₀) b workspace₀ workspace h
 
 abbrev μ-loop : tie.MeasureT-loop
-μ-loop k source b work₀ h₀ work h = length b - h
+μ-loop k source b workspace₀ h₀ workspace h = length b - h
 
 code : (c : tie.In-loop Inv-loop μ-loop) → c .before .loop .h < 2 ^ (c .before .before .before .before .args .k)
 code c = omega (arith, c .loop-test .taken, c .before .before .before .before .pre .1)
@@ -40,39 +40,39 @@ place-requires c κs = (c .before .before .before .before .pre .0 .few, omega ar
 place-requires-2 : tie.Need-place-requires-2 Inv-loop μ-loop
 place-requires-2 c κs = (c .before .before .before .before .before .pre .0 .few, omega arith, code (c .before))
 
-mul-work : tie.Need-mul-work Inv-loop μ-loop
-mul-work c =
+mul-workspace : tie.Need-mul-workspace Inv-loop μ-loop
+mul-workspace c =
     let p = c .before .before .before .before .before .before .pre .0 in
     omega (arith, code (c .before .before), p .inside, c .before .before .before .loop .inv .long)
 
-slice-read-work : tie.Need-slice-read-work Inv-loop μ-loop
-slice-read-work c =
+slice-read-workspace : tie.Need-slice-read-workspace Inv-loop μ-loop
+slice-read-workspace c =
     let p = c .before .before .before .before .before .before .before .pre .0 in
     omega (arith, code (c .before .before .before), p .inside, c .before .before .before .before .loop .inv .long)
 
-mul-work-2 : tie.Need-mul-work-2 Inv-loop μ-loop
-mul-work-2 c =
+mul-workspace-2 : tie.Need-mul-workspace-2 Inv-loop μ-loop
+mul-workspace-2 c =
     let p = c .before .before .before .before .before .before .before .pre .0 in
     omega (arith, left-in (c .before .before), p .behind, p .inside, c .before .before .before .before .loop .inv .long)
 
-slice-write-work : tie.Need-slice-write-work Inv-loop μ-loop
-slice-write-work c =
+slice-write-workspace : tie.Need-slice-write-workspace Inv-loop μ-loop
+slice-write-workspace c =
     let p = c .before .before .before .before .before .before .before .pre .0 in
     omega (arith, left-in (c .before .before), p .behind, p .inside, c .before .before .before .before .loop .inv .long)
 
-mul-work-3 : tie.Need-mul-work-3 Inv-loop μ-loop
-mul-work-3 c = search needs
+mul-workspace-3 : tie.Need-mul-workspace-3 Inv-loop μ-loop
+mul-workspace-3 c = search needs
 
-shared-slice-read-work : tie.Need-shared-slice-read-work Inv-loop μ-loop
-shared-slice-read-work c = search needs
+shared-slice-read-workspace : tie.Need-shared-slice-read-workspace Inv-loop μ-loop
+shared-slice-read-workspace c = search needs
 
-mul-work-4 : tie.Need-mul-work-4 Inv-loop μ-loop
-mul-work-4 c =
+mul-workspace-4 : tie.Need-mul-workspace-4 Inv-loop μ-loop
+mul-workspace-4 c =
     let p = c .before .before .before .before .before .before .before .before .pre .0 in
     omega (arith, right-in (c .before .before), p .behind, p .inside, c .before .before .before .before .before .loop .inv .long)
 
-slice-write-work-2 : tie.Need-slice-write-work-2 Inv-loop μ-loop
-slice-write-work-2 c =
+slice-write-workspace-2 : tie.Need-slice-write-workspace-2 Inv-loop μ-loop
+slice-write-workspace-2 c =
     let s = c .before .before .before .before .before .before .before .before in
     let v = c .before .before .before .before .before .loop in
     omega (
@@ -81,7 +81,7 @@ slice-write-work-2 c =
       s .pre .0 .behind,
       s .pre .0 .inside,
       v .inv .long,
-      length-set (v .work) (c .before .before .before .place .result) (at (v .work) (s .args .source + v .h)),
+      length-set (v .workspace) (c .before .before .before .place .result) (at (v .workspace) (s .args .source + v .h)),
     )
 
 add-h : tie.Need-add-h Inv-loop μ-loop
@@ -94,7 +94,7 @@ loop-again : tie.Need-loop-again Inv-loop μ-loop
 loop-again c =
     let turn = c .before .before .before .before in
     let s = turn .before .before .before .before in
-    laying-more (s .args .k) (s .args .source) (now (s .args .b)) (now (s .args .work)) (s .pre .0) _ _ _ _ _ _
+    laying-more (s .args .k) (s .args .source) (now (s .args .b)) (now (s .args .workspace)) (s .pre .0) _ _ _ _ _ _
     (turn .before .loop .inv) (code turn) (c .before .before .before .place .ensures) (c .before .before .place2 .ensures) refl refl
 
 same-length : tie.Need-same-length Inv-loop μ-loop
@@ -103,7 +103,7 @@ same-length c = c .before .loop .inv .long
 returns : tie.Need-returns Inv-loop μ-loop
 returns c =
     let s = c .before .before .before .before in
-    laying-all (s .args .k) (s .args .source) (now (s .args .b)) (now (s .args .work)) (s .pre .0) _ _ (c .before .loop .inv) (omega (arith, c .loop-test .left, s .pre .1))
+    laying-all (s .args .k) (s .args .source) (now (s .args .b)) (now (s .args .workspace)) (s .pre .0) _ _ (c .before .loop .inv) (omega (arith, c .loop-test .left, s .pre .1))
 
 pub lay-within-spec : {M : Type 1} → statement M
 lay-within-spec =
@@ -115,14 +115,14 @@ lay-within-spec =
     add-from
     place-requires
     place-requires-2
-    mul-work
-    slice-read-work
-    mul-work-2
-    slice-write-work
-    mul-work-3
-    shared-slice-read-work
-    mul-work-4
-    slice-write-work-2
+    mul-workspace
+    slice-read-workspace
+    mul-workspace-2
+    slice-write-workspace
+    mul-workspace-3
+    shared-slice-read-workspace
+    mul-workspace-4
+    slice-write-workspace-2
     add-h
     loop-less
     loop-again

@@ -9,10 +9,10 @@ use Rattle.ranked_within.proofs.read_within.Statement.{statement}
 use Rattle.ranked_within.proofs.read_within.Tie as tie
 
 abbrev Inv-loop : tie.InvT-loop
-Inv-loop k target work₀ size h₀ work h = (size ≡ 2 ^ k) × ReadingWithin k target work₀ work h
+Inv-loop k target workspace₀ size h₀ workspace h = (size ≡ 2 ^ k) × ReadingWithin k target workspace₀ workspace h
 
 abbrev μ-loop : tie.MeasureT-loop
-μ-loop k target work₀ size h₀ work h = size - h
+μ-loop k target workspace₀ size h₀ workspace h = size - h
 
 code : (c : tie.In-loop Inv-loop μ-loop) → c .before .loop .h < 2 ^ (c .before .before .before .before .args .k)
 code c = omega (arith, c .loop-test .taken, c .before .loop .inv .0)
@@ -29,23 +29,23 @@ result-place-requires c κs = (c .before .before .before .before .pre .few, code
 add-to : tie.Need-add-to Inv-loop μ-loop
 add-to c = omega (arith, code (c .before), c .before .before .before .before .before .pre .inside)
 
-mul-work : tie.Need-mul-work Inv-loop μ-loop
-mul-work c =
+mul-workspace : tie.Need-mul-workspace Inv-loop μ-loop
+mul-workspace c =
     let p = c .before .before .before .before .before .pre in
     omega (arith, c .result-place .ensures, result-in _ _ (code (c .before)), p .behind, p .inside, c .before .before .loop .inv .1 .long)
 
-slice-read-work : tie.Need-slice-read-work Inv-loop μ-loop
-slice-read-work c =
+slice-read-workspace : tie.Need-slice-read-workspace Inv-loop μ-loop
+slice-read-workspace c =
     let p = c .before .before .before .before .before .before .pre in
     omega (arith, c .before .result-place .ensures, result-in _ _ (code (c .before .before)), p .behind, p .inside, c .before .before .before .loop .inv .1 .long)
 
-mul-work-2 : tie.Need-mul-work-2 Inv-loop μ-loop
-mul-work-2 c =
+mul-workspace-2 : tie.Need-mul-workspace-2 Inv-loop μ-loop
+mul-workspace-2 c =
     let p = c .before .before .before .before .before .before .pre in
     omega (arith, code (c .before .before), p .inside, c .before .before .before .loop .inv .1 .long)
 
-slice-write-work : tie.Need-slice-write-work Inv-loop μ-loop
-slice-write-work c =
+slice-write-workspace : tie.Need-slice-write-workspace Inv-loop μ-loop
+slice-write-workspace c =
     let p = c .before .before .before .before .before .before .pre in
     omega (arith, code (c .before .before), p .inside, c .before .before .before .loop .inv .1 .long)
 
@@ -59,7 +59,7 @@ loop-again : tie.Need-loop-again Inv-loop μ-loop
 loop-again c =
     let s = c .before .before .before .before .before .before in
     let v = c .before .before .before .loop in
-    (v .inv .0, reading-more (s .args .k) (s .args .target) (now (s .args .work)) (s .pre) _ _ _ _ (v .inv .1) (code (c .before .before)) (c .before .result-place .ensures) refl)
+    (v .inv .0, reading-more (s .args .k) (s .args .target) (now (s .args .workspace)) (s .pre) _ _ _ _ (v .inv .1) (code (c .before .before)) (c .before .result-place .ensures) refl)
 
 same-length : tie.Need-same-length Inv-loop μ-loop
 same-length c = c .before .loop .inv .1 .long
@@ -67,7 +67,7 @@ same-length c = c .before .loop .inv .1 .long
 returns : tie.Need-returns Inv-loop μ-loop
 returns c =
     let s = c .before .before .before .before in
-    reading-all (s .args .k) (s .args .target) (now (s .args .work)) (s .pre) _ _ (c .before .loop .inv .1) (omega (arith, c .loop-test .left, c .before .loop .inv .0))
+    reading-all (s .args .k) (s .args .target) (now (s .args .workspace)) (s .pre) _ _ (c .before .loop .inv .1) (omega (arith, c .loop-test .left, c .before .loop .inv .0))
 
 pub read-within-spec : {M : Type 1} → statement M
 read-within-spec =
@@ -79,10 +79,10 @@ read-within-spec =
     loop-holds
     result-place-requires
     add-to
-    mul-work
-    slice-read-work
-    mul-work-2
-    slice-write-work
+    mul-workspace
+    slice-read-workspace
+    mul-workspace-2
+    slice-write-workspace
     add-h
     loop-less
     loop-again
