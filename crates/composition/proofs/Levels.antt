@@ -108,7 +108,7 @@ pub record Composing (n m start : ℕ) (a f w₀ : List ℕ) (k : ℕ) (w : List
   pub slots : Slots m k 0 (suc (n - k)) (at f) (at a) (drop start w)
 
 module _ (n m start : ℕ) (a f w₀ : List ℕ) (e : start ≡ rowsLength n) (d : Ready n m a w₀) (g : RowReady n m f) where
-  pub tables-in : start ≤ length w₀
+  tables-in : start ≤ length w₀
   tables-in = omega (arith, d .room)
 
   -- the tables' part of the workspace, as it is lent

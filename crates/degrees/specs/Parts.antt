@@ -3,11 +3,11 @@
 --   part-most                  at most d + q
 --   part-halves                of the halves, where the upper one has one control more
 --   part-eight                 of eight entries, those of sets of one size joined
-use mathlib.Core.Path.{_≡_, refl, sym, ap, ap₂, _∙_}
+use mathlib.Core.Path.{_≡_, sym, ap, ap₂, _∙_}
 use mathlib.Core.Bool.{Bool, true, false, cond}
 use mathlib.Core.List.{List}
 use Prim.Native.Nat.{ℕ, zero, suc, _+_, _^_, _<_, _≤_, max}
-use native.Mathlib.Nat.{add-zero, add-suc, zero-add, zero-max, max-zero}
+use native.Mathlib.Nat.{add-zero, zero-add, zero-max, max-zero}
 use native.Mathlib.Omega.{arith}
 use lib.Bits.{bitOr, or-add-and, and-le-r}
 use lib.Count.{ones}
@@ -18,7 +18,7 @@ use borrow.Author.Tests.{ne-eqb}
 use Rattle.definitions.specs.Sums.{at, largest}
 use Rattle.definitions.specs.Sets.{size}
 use Rattle.definitions.specs.Products.{degree}
-use Rattle.theory.specs.Sums.{largest-le}
+use Rattle.theory.specs.Sums.{largest-ext, largest-split, largest-le}
 use Rattle.theory.specs.Codes.{size-top, size-le, size-zero}
 
 -- what a set of that size counts for if its entry is x
@@ -27,18 +27,6 @@ counted x size = cond (eqb x 0) 0 size
 
 unfoldable pub partDegree : ℕ → ℕ → List ℕ → ℕ
 partDegree q d A = largest (2 ^ q) (λ S. counted (at A S) (d + size S))
-
--- ---- the largest of some numbers
-
-largest-ext : (n : ℕ) (f g : ℕ → ℕ) → ((i : ℕ) → i < n → f i ≡ g i) → largest n f ≡ largest n g
-unfolding largest
-largest-ext zero f g h = refl
-largest-ext (suc n) f g h = ap₂ max (largest-ext n f g (λ i k. h i (omega arith))) (h n (omega arith))
-
-largest-split : (m n : ℕ) (f : ℕ → ℕ) → largest (m + n) f ≡ max (largest m f) (largest n (λ i. f (m + i)))
-unfolding largest
-largest-split m zero f = rw (add-zero, max-zero)
-largest-split m (suc n) f = rw add-suc (omega (arith, largest-split m n f))
 
 -- ---- the laws
 

@@ -1,7 +1,7 @@
 use Prim.Native.Nat.{_-_}
 use denote.Ref.{now}
 use borrow.Author.Needs.{needs}
-use Rattle.composition.proofs.Levels.{Composing, tables-in, row-fits, composing-first, level-ready, composing-more, composed}
+use Rattle.composition.proofs.Levels.{Composing, row-fits, composing-first, level-ready, composing-more, composed}
 use Rattle.composition.proofs.composition_table.Statement.{statement}
 use Rattle.composition.proofs.composition_table.Tie as tie
 

@@ -1,7 +1,7 @@
 use mathlib.Core.Path.{ap}
 use Prim.Native.Nat.{ℕ, _+_, _*_}
 use native.Mathlib.Omega.{arith}
-use Rattle.ranked_theory.specs.Layout.{rowsLength, place, rows-few, place-in}
+use Rattle.ranked_theory.specs.Layout.{place, rows-few, place-in}
 use borrow.Author.Needs.{needs}
 use Rattle.ranked_rows.proofs.place.Statement.{statement}
 use Rattle.ranked_rows.proofs.place.Tie as tie

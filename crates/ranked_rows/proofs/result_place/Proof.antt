@@ -1,7 +1,7 @@
 use mathlib.Core.Path.{ap}
 use Prim.Native.Nat.{ℕ, _+_, _*_}
 use native.Mathlib.Omega.{arith}
-use Rattle.ranked_theory.specs.Layout.{rowsLength, resultPlace, rows-few, result-in}
+use Rattle.ranked_theory.specs.Layout.{resultPlace, rows-few, result-in}
 use borrow.Author.Needs.{needs}
 use Rattle.ranked_rows.proofs.result_place.Statement.{statement}
 use Rattle.ranked_rows.proofs.result_place.Tie as tie
