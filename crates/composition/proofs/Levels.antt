@@ -183,8 +183,9 @@ module _ (n m start : ℕ) (a f w₀ : List ℕ) (e : start ≡ rowsLength n) (d
 -- ---- the result
 
 module _ {n start : ℕ} {w r : List ℕ} (e : start ≡ rowsLength n) (d : ResultReady n w r) where
-  pub result-fits : (length r ≤ length (take (length w - start) (drop start w))) × (length r ≤ length r)
-  result-fits = (omega (arith, ap length (part-behind start w), length-drop start w, d .room, d .as-long), omega arith)
+  -- all of the result, or some of it
+  pub result-fits : (count : ℕ) → count ≤ length r → (count ≤ length (take (length w - start) (drop start w))) × (count ≤ length r)
+  result-fits count few = (omega (arith, ap length (part-behind start w), length-drop start w, d .room, d .as-long), few)
 
   pub result-taken : {l : List ℕ} → l ≡ filled (at (take (length w - start) (drop start w))) (length r) r → l ≡ resultIn n w
   result-taken made =

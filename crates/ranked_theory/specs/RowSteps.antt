@@ -1,6 +1,6 @@
 -- Rows that a loop changes, each over its row of the lower half.
 --   run-in, run-out, run-ready         a run, by the places of its row
---   add-row, subtract-row              steps (1) and (2) for one row; back-less, back-as: of another size
+--   add-row, subtract-row              steps (1) and (2) for one row; back-ready, back-step: the size told otherwise
 --   Passing                            the invariant of a loop over the rows
 use mathlib.Core.Path.{_≡_, refl, sym, ap, subst, subst₂, _∙_}
 use mathlib.Core.List.{List}
@@ -83,21 +83,13 @@ subtract-row m s e w mid u k xs ready ek a b ys ea eb run =
       elsewhere = λ j o. run-not j (⊎-elim (λ l. inl (omega arith)) (λ l. inr (omega arith)) o);
     }
 
--- for a smaller set fewer ranks have to be residues
-pub back-less : (m s t e w mid u : ℕ) (xs : List ℕ) → t ≤ s → RowReady m 1 (backFrom w e s) (backCount e s) w mid u xs
-    → RowReady m 1 (backFrom w e t) (backCount e t) w mid u xs
-back-less m s t e w mid u xs few h =
-    record {
-      row = omega (arith, h .row);
-      lower = h .lower;
-      upper = h .upper;
-      lower-below = λ r l g. h .lower-below r (omega (arith, h .row)) (omega (arith, h .row));
-      upper-below = λ r l g. h .upper-below r (omega (arith, h .row)) (omega (arith, h .row));
-    }
-
 -- the size, told otherwise
-pub back-as : {m s t e w mid u : ℕ} {xs ys : List ℕ} → s ≡ t → RowStep (Subtracted m w e s) 1 w mid u xs ys → RowStep (Subtracted m w e t) 1 w mid u xs ys
-back-as {m} {e = e} {w} {mid} {u} {xs} {ys} same h = subst (λ (k : ℕ). RowStep (Subtracted m w e k) 1 w mid u xs ys) same h
+module _ {s t : ℕ} (same : s ≡ t) (e : ℕ) {m w mid u : ℕ} {xs : List ℕ} where
+  pub back-ready : RowReady m 1 (backFrom w e s) (backCount e s) w mid u xs → RowReady m 1 (backFrom w e t) (backCount e t) w mid u xs
+  back-ready h = subst (λ (k : ℕ). RowReady m 1 (backFrom w e k) (backCount e k) w mid u xs) same h
+
+  pub back-step : {ys : List ℕ} → RowStep (Subtracted m w e s) 1 w mid u xs ys → RowStep (Subtracted m w e t) 1 w mid u xs ys
+  back-step {ys} h = subst (λ (k : ℕ). RowStep (Subtracted m w e k) 1 w mid u xs ys) same h
 
 -- ---- a loop over the rows
 

@@ -1,3 +1,4 @@
+use native.Mathlib.Omega.{arith}
 use borrow.Author.Needs.{needs}
 use Rattle.composition.proofs.Levels.{result-fits, result-taken}
 use Rattle.composition.proofs.take_result.Statement.{statement}
@@ -19,7 +20,7 @@ part-copy-entries-end : tie.Need-part-copy-entries-end
 part-copy-entries-end c = search needs
 
 copy-entries-requires : tie.Need-copy-entries-requires
-copy-entries-requires c κs = result-fits (c .before .before .rows-length .ensures) (c .before .before .before .before .before .pre)
+copy-entries-requires c κs = result-fits (c .before .before .rows-length .ensures) (c .before .before .before .before .before .pre) _ (omega arith)
 
 same-length : tie.Need-same-length
 same-length c = search needs

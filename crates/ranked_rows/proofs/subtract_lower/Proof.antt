@@ -1,11 +1,11 @@
-use mathlib.Core.Path.{_≡_, ap}
+use mathlib.Core.Path.{_≡_, sym, ap}
 use Prim.Native.Nat.{ℕ, _+_, _-_, _*_, _^_, _<_}
 use native.Mathlib.Omega.{arith}
 use lib.Pow.{pow-mono}
 use Rattle.definitions.specs.Sets.{size}
 use Rattle.theory.specs.Codes.{size-le, size-zero}
 use Rattle.ranked_theory.specs.Rows.{Subtracted, backFrom, backCount}
-use Rattle.ranked_theory.specs.RowSteps.{Passing, passing-none, passing-ready, passing-more, passing-all, back-less, back-as}
+use Rattle.ranked_theory.specs.RowSteps.{Passing, passing-none, passing-ready, passing-more, passing-all, back-ready, back-step}
 use borrow.Author.Needs.{needs}
 use Rattle.ranked_rows.proofs.subtract_lower.Statement.{statement}
 use Rattle.ranked_rows.proofs.subtract_lower.Tie as tie
@@ -43,7 +43,7 @@ subtract-row-requires c κs =
     let turn = c .before .before .before in
     let inv = turn .before .loop .inv in (
       s .pre .0,
-      back-less _ _ _ _ _ _ _ _ (omega (arith, inv .0))
+      back-ready (ap (λ (k : ℕ). k + a .d .0) (sym (inv .0))) (a .e .0)
           (passing-ready _ (λ u. backFrom (a .w) (a .e .0) (size u + a .d .0)) (λ u. backCount (a .e .0) (size u + a .d .0)) (s .pre .1 .0) (inv .1) (turn .loop-test .taken)),
     )
 
@@ -62,7 +62,7 @@ loop-again c =
     let v = turn .before .loop in
     let d = c .before .before .before .before .before .before .before .before .before .before .before .args .d .0 in
     let done = c .before .before .before .subtract-row in
-    (c .next-size .ensures, passing-more (v .inv .1) (turn .loop-test .taken) (back-as (ap (λ (s : ℕ). s + d) (v .inv .0)) (done .ensures)) (done .kept .1 .1 .1 .1 .1 .1 .0))
+    (c .next-size .ensures, passing-more (v .inv .1) (turn .loop-test .taken) (back-step (ap (λ (s : ℕ). s + d) (v .inv .0)) _ (done .ensures)) (done .kept .1 .1 .1 .1 .1 .1 .0))
 
 same-length : tie.Need-same-length Inv-loop μ-loop
 same-length c = c .before .loop .inv .1 .long
