@@ -1,5 +1,5 @@
 // The ranked subset product of 001 section 1: the recursion on rows (see `ranked_rows`), laying a factor out, reading the result off,
-// and the product made of them. Where the rows hold what is `ranked_rows`' to say: nothing here or above counts on more than its names.
+// and the product made of them. Laying out and reading off ask `ranked_rows` for the places, so that nothing above counts on the layout.
 ghost use mathlib.Core.Path.{_≡_};
 ghost use Prim.Native.Nat.{_^_, _≤_};
 ghost use lib.ListN.{length};
