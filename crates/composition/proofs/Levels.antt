@@ -44,7 +44,7 @@ pub record Raising (n k m start : ℕ) (a w₀ : List ℕ) (i : ℕ) (w : List �
   pub old : (f : ℕ → ℕ) → Slots m k 0 (suc (n - k)) f (at a) (drop start w₀) → Slots m k 0 (suc i) f (at a) (drop start w)
   pub new : (f : ℕ → ℕ) → Slots m k 0 (suc (n - k)) f (at a) (drop start w₀) → Slots m (suc k) i (n - k) f (at a) (drop start w)
 
-module _ (n k m start : ℕ) (a w₀ : List ℕ) (d : LevelReady n k m start a w₀) where
+module _ {n k m start : ℕ} {a w₀ : List ℕ} (d : LevelReady n k m start a w₀) where
   pub raising-none : Raising n k m start a w₀ (n - k) w₀
   raising-none = record {
     left = omega (arith, d .more);
@@ -53,7 +53,7 @@ module _ (n k m start : ℕ) (a w₀ : List ℕ) (d : LevelReady n k m start a w
     new = λ f s. record { slot = λ i S l h c. omega arith };
   }
 
-  module _ (i : ℕ) (w : List ℕ) (pos : 0 < i) (o : Raising n k m start a w₀ i w) where
+  module _ {i : ℕ} {w : List ℕ} (pos : 0 < i) (o : Raising n k m start a w₀ i w) where
     back : i ≡ suc (i - 1)
     back = omega arith
 
@@ -91,8 +91,8 @@ module _ (n k m start : ℕ) (a w₀ : List ℕ) (d : LevelReady n k m start a w
               (subst (λ (j : ℕ). Slots m (suc k) j (n - k) f (at a) r) back (o .new f g));
         }
 
-  pub raised : (i : ℕ) (w : List ℕ) → i ≤ 0 → Raising n k m start a w₀ i w → LevelRaised n k m a (drop start w₀) (drop start w)
-  raised i w z o f s = let e : i ≡ 0 = omega arith in subst (λ (j : ℕ). Slots m (suc k) j (n - k) f (at a) (drop start w)) e (o .new f s)
+  pub raised : {i : ℕ} {w : List ℕ} → i ≤ 0 → Raising n k m start a w₀ i w → LevelRaised n k m a (drop start w₀) (drop start w)
+  raised {i} {w} z o f s = let e : i ≡ 0 = omega arith in subst (λ (j : ℕ). Slots m (suc k) j (n - k) f (at a) (drop start w)) e (o .new f s)
 
 -- ---- all levels
 
@@ -107,7 +107,7 @@ pub record Composing (n m start : ℕ) (a f w₀ : List ℕ) (k : ℕ) (w : List
   pub room : start + 2 ^ n ≤ length w
   pub slots : Slots m k 0 (suc (n - k)) (at f) (at a) (drop start w)
 
-module _ (n m start : ℕ) (a f w₀ : List ℕ) (e : start ≡ rowsLength n) (d : Ready n m a w₀) (g : RowReady n m f) where
+module _ {n m start : ℕ} {a f w₀ : List ℕ} (e : start ≡ rowsLength n) (d : Ready n m a w₀) (g : RowReady n m f) where
   tables-in : start ≤ length w₀
   tables-in = omega (arith, d .room)
 
@@ -145,7 +145,7 @@ module _ (n m start : ℕ) (a f w₀ : List ℕ) (e : start ≡ rowsLength n) (d
         });
       }
 
-  module _ (w₁ : List ℕ) (k : ℕ) (w : List ℕ) (o : Composing n m start a f w₁ k w) where
+  module _ {w₁ : List ℕ} {k : ℕ} {w : List ℕ} (o : Composing n m start a f w₁ k w) where
     pub level-ready : k < n → LevelReady n k m start a w
     level-ready h = record {
       few = d .few;

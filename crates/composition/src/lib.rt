@@ -1,5 +1,5 @@
 // The composition of a table with a row, worked in the workspace that it is lent: the rows of its products in front, its tables side
-// by side behind them. So it reads one slice and writes another one.
+// by side behind them. It writes nothing else, so that the table may stand wherever a caller has it.
 ghost use mathlib.Core.Path.{_≡_};
 ghost use Prim.Native.Nat.{_≤_};
 ghost use lib.ListN.{length, drop};
@@ -57,7 +57,7 @@ fn next_level(n: usize, k: usize, modulus: Modulus, start: usize, a: &[u32], wor
     }
 }
 
-// The first entries of one list become those of another.
+// So many entries of `from` become the first of `to`.
 fn copy_entries(count: usize, from: &[u32], to: &mut [u32])
     requires { ⌜ (count ≤ length (now from)) × (count ≤ length (now to)) ⌝ }
     ensures { λ _. ⌜ now (to .exit) ≡ filled (at (now (from .entry))) count (now (to .entry)) ⌝ }
@@ -70,7 +70,7 @@ fn copy_entries(count: usize, from: &[u32], to: &mut [u32])
 }
 
 // The composition of a table of n controls with a row. At level k there are n - k + 1 tables of the first k controls side by side;
-// table i is the composition with the row from its entry i on. The table's first entry is not read.
+// table i is the composition with the row from its entry i on. The last one is left behind the rows. a's first entry is not read.
 pub fn composition_table(n: usize, modulus: Modulus, a: &[u32], f: &[u32], workspace: &mut [u32])
     requires { ⌜ Valid modulus ⌝ }
     requires { ⌜ Ready n (modulus .value) (now a) (now workspace) ⌝ }
@@ -86,7 +86,7 @@ pub fn composition_table(n: usize, modulus: Modulus, a: &[u32], f: &[u32], works
     }
 }
 
-// The table that the composition has left in the workspace, copied to a result.
+// The table that a composition has left in the workspace, copied to a result.
 pub fn take_result(n: usize, workspace: &[u32], result: &mut [u32])
     requires { ⌜ ResultReady n (now workspace) (now result) ⌝ }
     ensures { λ _. ⌜ now (result .exit) ≡ resultIn n (now (workspace .entry)) ⌝ }

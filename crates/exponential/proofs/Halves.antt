@@ -1,7 +1,7 @@
 -- The exponential's step from the finished lower half of p controls to the whole of p + 1.
 use mathlib.Core.Path.{_≡_, sym, ap, _∙_}
 use mathlib.Core.List.{List, _++_}
-use mathlib.Core.Logic.{_⊎_, ⊎-elim}
+use mathlib.Core.Logic.{⊎-elim}
 use Prim.Native.Nat.{ℕ, suc, _+_, _-_, _%_, _^_, _<_, _≤_}
 use native.Mathlib.Nat.{mod-eq-of-lt, mod-lt}
 use native.Mathlib.Omega.{arith}
@@ -32,14 +32,14 @@ module _ {p m mid : ℕ} {t w : List ℕ} (e : mid ≡ 2 ^ p) (d : Ready (suc p)
   abbrev upper : List ℕ
   upper = take (length t - mid) (drop mid t)
 
-  pub lower-long : mid ≡ length (take mid t)
-  lower-long = sym (length-take-le mid t (omega (arith, d .long)))
+  lower-long : length (take mid t) ≡ 2 ^ p
+  lower-long = length-take-le mid t (omega (arith, d .long)) ∙ e
 
   pub upper-long : length upper ≡ 2 ^ p
   upper-long = ap length (part-behind mid t) ∙ omega (arith, length-drop mid t, d .long)
 
   pub left-ready : Room p (take mid t) w
-  left-ready = record { few = omega (arith, d .few); table = sym lower-long ∙ e; long = room }
+  left-ready = record { few = omega (arith, d .few); table = lower-long; long = room }
 
   pub right-ready : (rows : List ℕ) → length rows ≡ length w → Room p upper rows
   right-ready rows same = record { few = omega (arith, d .few); table = upper-long; long = omega (arith, room) }

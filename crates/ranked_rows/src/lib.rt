@@ -1,7 +1,7 @@
-// One step of the ranked recursion on rows: step 1 (down), step 2 (back) and step 3 (one entry) of 001 section 1. Row h has 2n + 2
-// numbers. On the way down the two factors lie side by side, the left one's rank k at 2 (|h| - k) and the right one's next to it;
-// from one entry up, the row holds the result's rank |h| + i at 2n - i. Since ranks are counted from |h|, a row starts with what its
-// entry is made of and ends with what it becomes.
+// Where rows hold what, and one step of the ranked recursion on them: step 1 (down), step 2 (back) and step 3 (one entry) of 001
+// section 1. Row h has 2n + 2 numbers. On the way down the two factors lie side by side, the left one's rank k at 2 (|h| - k) and the
+// right one's next to it; from one entry up, the row holds the result's rank |h| + i at 2n - i. Since ranks are counted from |h|, a row
+// starts with what its entry is made of and ends with what it becomes.
 ghost use mathlib.Core.Path.{_≡_};
 ghost use Prim.Native.Nat.{_+_, _-_, _*_, _^_, _<_, _≤_, min};
 ghost use Rattle.definitions.specs.Sets.{size};
@@ -38,7 +38,7 @@ pub fn rows_length(n: usize) -> usize
     power_of_two(n) * row_width(n)
 }
 
-// Where they hold the entry of set h in the factor at that side, 0 the left one and 1 the right one.
+// Where the rows hold the entry of set h in the factor at that side, 0 the left one and 1 the right one.
 pub fn place(n: usize, side: usize, h: SetCode) -> usize
     requires { ⌜ (n ≤ 16) × (side ≤ 1) × (h .0 < 2 ^ n) ⌝ }
     ensures { λ r. ⌜ r ≡ place n side (h .0) ⌝ }
@@ -46,7 +46,7 @@ pub fn place(n: usize, side: usize, h: SetCode) -> usize
     h.0 * row_width(n) + side
 }
 
-// Where they hold it in the product.
+// Where the rows hold the entry of set h in the product.
 pub fn result_place(n: usize, h: SetCode) -> usize
     requires { ⌜ (n ≤ 16) × (h .0 < 2 ^ n) ⌝ }
     ensures { λ r. ⌜ r ≡ resultPlace n (h .0) ⌝ }

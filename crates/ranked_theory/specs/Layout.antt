@@ -1,5 +1,6 @@
--- Where the rows of a product of n controls hold what. Other crates use the names and the laws of this page and not the arithmetic
--- behind them, so that a new layout changes this page and the recursion.
+-- Where the rows of a product of n controls hold what. Only the recursion and `ranked_rows`, which works it and has the same names as
+-- functions, count on the arithmetic; all above use the names and the laws of this page, so that a new layout changes nothing there.
+--   width                                              of a row, for the recursion
 --   rowsLength, rows-mono, rows-few, rows-and-tables   how many numbers the rows have
 --   place, place-in, place-apart                       where they hold a set's entry in one of the two factors
 --   resultPlace, result-in                             where they hold it in the product
@@ -59,9 +60,10 @@ module _ (n : ℕ) where
       (λ (g : H ≤ h). ⊎-elim (λ (l : H < h). let b = row-in H h (width n) l in omega arith) (λ (g' : h ≤ H). omega arith) (below-or H h)) (below-or h H)
 
   -- each factor has a place of its own for each set
-  pub place-apart : (side h side' h' : ℕ) → side ≤ 1 → side' ≤ 1 → place n side h ≡ place n side' h' → (side ≡ side') × (h ≡ h')
+  pub place-apart : (side h side' h' : ℕ) → side ≤ 1 → side' ≤ 1 → h < 2 ^ n → h' < 2 ^ n → place n side h ≡ place n side' h'
+      → (side ≡ side') × (h ≡ h')
   unfolding place
-  place-apart side h side' h' one one' e =
+  place-apart side h side' h' one one' l l' e =
       let same : h ≡ h' = same-row h side h' side' (omega arith) (omega arith) e in
       let z : h * width n ≡ h' * width n = rw same refl in
       (omega arith, same)

@@ -1,6 +1,6 @@
 -- Rows that a loop changes, each over its row of the lower half.
 --   run-in, run-out, run-ready         a run, by the places of its row
---   add-row, subtract-row              steps (1) and (2) for one row; back-ready, back-step: the size told otherwise
+--   add-row, subtract-row              steps (1) and (2) for one row; row-ready-as, row-step-as: the size told otherwise
 --   Passing                            the invariant of a loop over the rows
 use mathlib.Core.Path.{_≡_, refl, sym, ap, subst, subst₂, _∙_}
 use mathlib.Core.List.{List}
@@ -85,11 +85,11 @@ subtract-row m s e w mid u k xs ready ek a b ys ea eb run =
 
 -- the size, told otherwise
 module _ {s t : ℕ} (same : s ≡ t) (e : ℕ) {m w mid u : ℕ} {xs : List ℕ} where
-  pub back-ready : RowReady m 1 (backFrom w e s) (backCount e s) w mid u xs → RowReady m 1 (backFrom w e t) (backCount e t) w mid u xs
-  back-ready h = subst (λ (k : ℕ). RowReady m 1 (backFrom w e k) (backCount e k) w mid u xs) same h
+  pub row-ready-as : RowReady m 1 (backFrom w e s) (backCount e s) w mid u xs → RowReady m 1 (backFrom w e t) (backCount e t) w mid u xs
+  row-ready-as h = subst (λ (k : ℕ). RowReady m 1 (backFrom w e k) (backCount e k) w mid u xs) same h
 
-  pub back-step : {ys : List ℕ} → RowStep (Subtracted m w e s) 1 w mid u xs ys → RowStep (Subtracted m w e t) 1 w mid u xs ys
-  back-step {ys} h = subst (λ (k : ℕ). RowStep (Subtracted m w e k) 1 w mid u xs ys) same h
+  pub row-step-as : {ys : List ℕ} → RowStep (Subtracted m w e s) 1 w mid u xs ys → RowStep (Subtracted m w e t) 1 w mid u xs ys
+  row-step-as {ys} h = subst (λ (k : ℕ). RowStep (Subtracted m w e k) 1 w mid u xs ys) same h
 
 -- ---- a loop over the rows
 

@@ -1,5 +1,5 @@
 -- Tables in rows: laying a factor out, and reading the product off.
---   Laying, LayingBoth, Reading  the invariants of the loops
+--   Laying, LayingBoth, Reading  the invariants of the loops; read-product: what was read off
 --   root-ready, root-product     what the recursion takes and leaves at the root
 --   laid-ready, still-laid       two tables of residues, laid out at once or one after the other, may be multiplied
 use mathlib.Core.Path.{_≡_, refl, sym, ap, subst, _∙_}
@@ -32,8 +32,8 @@ laying-none n side A xs =
     record { turn = omega arith; long = refl; laid = λ h l. absurd (not-suc-le-zero l); other = λ j no. refl }
 
 -- another set has another place
-earlier : (n side g H p : ℕ) → side ≤ 1 → p ≡ place n side H → g < H → place n side g ≡ p → ⊥
-earlier n side g H p one e l q = omega (arith, place-apart n side g side H one one (q ∙ e) .1)
+earlier : (n side g H p : ℕ) → side ≤ 1 → H < 2 ^ n → p ≡ place n side H → g < H → place n side g ≡ p → ⊥
+earlier n side g H p one h e l q = omega (arith, place-apart n side g side H one one (omega arith) h (q ∙ e) .1)
 
 pub laying-more : {n side : ℕ} {A xs ys : List ℕ} {H : ℕ} → Laying n side A xs ys H → side ≤ 1 → H < 2 ^ n → rowsLength n ≤ length xs
     → (p x : ℕ) → p ≡ place n side H → x ≡ at A H → Laying n side A xs (set ys p x) (H + 1)
@@ -43,7 +43,7 @@ laying-more {n} {side} {A} {xs} {ys} {H} h one l room p x ep ex =
       long = length-set ys p x ∙ h .long;
       laid = λ g lg.
           at-next (λ k. at (set ys p x) (place n side k) ≡ at A k) H g lg
-          (λ lt. getD-set-other ys p (place n side g) x 0 (earlier n side g H p one ep lt) ∙ h .laid g lt)
+          (λ lt. getD-set-other ys p (place n side g) x 0 (earlier n side g H p one l ep lt) ∙ h .laid g lt)
           (ap (at (set ys p x)) (sym ep) ∙ getD-set-same ys p x 0 (omega (arith, h .long, place-in n side H one l)) ∙ ex);
       other = λ j no.
           getD-set-other ys p j x 0 (λ q. no H (omega arith) (q ∙ ep)) ∙ h .other j (λ g lt. no g (omega arith));
@@ -72,8 +72,8 @@ laying-both-none n A B xs =
     }
 
 -- the two factors have places apart
-sides : (n g H : ℕ) → place n 0 g ≡ place n 1 H → ⊥
-sides n g H q = omega (arith, place-apart n 0 g 1 H (omega arith) (omega arith) q .0)
+sides : (n g H : ℕ) → g < 2 ^ n → H < 2 ^ n → place n 0 g ≡ place n 1 H → ⊥
+sides n g H l h q = omega (arith, place-apart n 0 g 1 H (omega arith) (omega arith) l h q .0)
 
 pub laying-both-more : {n : ℕ} {A B xs ys : List ℕ} {H : ℕ} → LayingBoth n A B xs ys H → H < 2 ^ n → rowsLength n ≤ length xs
     → (p q x y : ℕ) → p ≡ place n 0 H → q ≡ place n 1 H → x ≡ at A H → y ≡ at B H → LayingBoth n A B xs (set (set ys p x) q y) (H + 1)
@@ -88,15 +88,15 @@ laying-both-more {n} {A} {B} {xs} {ys} {H} h l room p q x y ep eq ex ey =
       left = λ g lg.
           at-next (λ k. at (set once q y) (place n 0 k) ≡ at A k) H g lg
           (λ lt.
-          getD-set-other once q (place n 0 g) y 0 (λ e. sides n g H (e ∙ eq))
-          ∙ getD-set-other ys p (place n 0 g) x 0 (earlier n 0 g H p (omega arith) ep lt) ∙ h .left g lt)
-          (getD-set-other once q (place n 0 H) y 0 (λ e. sides n H H (e ∙ eq))
+          getD-set-other once q (place n 0 g) y 0 (λ e. sides n g H (omega arith) l (e ∙ eq))
+          ∙ getD-set-other ys p (place n 0 g) x 0 (earlier n 0 g H p (omega arith) l ep lt) ∙ h .left g lt)
+          (getD-set-other once q (place n 0 H) y 0 (λ e. sides n H H l l (e ∙ eq))
           ∙ ap (at once) (sym ep) ∙ getD-set-same ys p x 0 (omega (arith, h .long)) ∙ ex);
       right = λ g lg.
           at-next (λ k. at (set once q y) (place n 1 k) ≡ at B k) H g lg
           (λ lt.
-          getD-set-other once q (place n 1 g) y 0 (earlier n 1 g H q (omega arith) eq lt)
-          ∙ getD-set-other ys p (place n 1 g) x 0 (λ e. sides n H g (sym (e ∙ ep))) ∙ h .right g lt)
+          getD-set-other once q (place n 1 g) y 0 (earlier n 1 g H q (omega arith) l eq lt)
+          ∙ getD-set-other ys p (place n 1 g) x 0 (λ e. sides n H g l (omega arith) (sym (e ∙ ep))) ∙ h .right g lt)
           (ap (at (set once q y)) (sym eq) ∙ getD-set-same once q y 0 (omega (arith, h .long)) ∙ ey);
       behind = λ z lz.
           getD-set-other once q z y 0 (λ e. omega arith) ∙ getD-set-other ys p z x 0 (λ e. omega arith) ∙ h .behind z lz;
@@ -142,8 +142,8 @@ module _ (m n : ℕ) (xs : List ℕ) (ready : BothReady m n xs) (used : ℕ) (al
   unfolding rowsLength
   row-within u k lu lk = omega (arith, row-in u (2 ^ n) (width n) lu, all)
 
-  at-part : (u k : ℕ) → u < 2 ^ n → k < width n → at (take used xs) (u * width n + k) ≡ at xs (u * width n + k)
-  at-part u k lu lk = getD-take used xs (u * width n + k) 0 (row-within u k lu lk)
+  at-front : (u k : ℕ) → u < 2 ^ n → k < width n → at (take used xs) (u * width n + k) ≡ at xs (u * width n + k)
+  at-front u k lu lk = getD-take used xs (u * width n + k) 0 (row-within u k lu lk)
 
   pub part-fits : used ≤ length xs
   part-fits = omega (arith, ready .long)
@@ -158,7 +158,7 @@ module _ (m n : ℕ) (xs : List ℕ) (ready : BothReady m n xs) (used : ℕ) (al
         few = ready .few;
         room = omega arith;
         long = part-long ∙ all;
-        filled = λ u k lu h. subst (λ (x : ℕ). x < m) (sym (at-part u k lu (omega arith))) (ready .below u k lu (omega arith));
+        filled = λ u k lu h. subst (λ (x : ℕ). x < m) (sym (at-front u k lu (omega arith))) (ready .below u k lu (omega arith));
       }
 
   root-factor : (side : ℕ) → side ≤ 1 → (A : List ℕ) → Laid n side A xs → Factor m n side n 0 (take used xs) (ranked (at A))
@@ -167,7 +167,7 @@ module _ (m n : ℕ) (xs : List ℕ) (ready : BothReady m n xs) (used : ℕ) (al
       let e : side ≡ 2 * (size u + 0 - k) + side = omega arith in
       let l : at A u < m = subst (λ (x : ℕ). x < m) (h u lu) (ready .below u side lu one) in
       subst (λ (t : ℕ). at (take used xs) (u * width n + t) ≡ ranked (at A) u k % m) e
-      (at-part u side lu (omega arith) ∙ h u lu ∙ sym (ap (λ (x : ℕ). x % m) (ranked-on (at A) u k (omega arith)) ∙ mod-eq-of-lt l))
+      (at-front u side lu (omega arith) ∙ h u lu ∙ sym (ap (λ (x : ℕ). x % m) (ranked-on (at A) u k (omega arith)) ∙ mod-eq-of-lt l))
 
   module _ (l : List ℕ) (worked : Worked m n n 0 (take used xs) l) (l-long : length l ≡ length (take used xs)) where
     rows-product : (A B : List ℕ) → LaidBoth n A B xs → (u : ℕ) → u < 2 ^ n
@@ -216,4 +216,4 @@ laid-ready {m} {n} {xs = xs} few long laid left right =
 pub still-laid : {n side side' : ℕ} (A : List ℕ) {B xs ys : List ℕ} → Laid n side A xs → LaidOut n side' B xs ys → side ≤ 1 → side' ≤ 1 → (side ≡ side' → ⊥)
     → Laid n side A ys
 still-laid {n} {side} {side'} A laid out one one' apart h l =
-    out .other (place n side h) (λ g lg e. apart (place-apart n side h side' g one one' e .0)) ∙ laid h l
+    out .other (place n side h) (λ g lg e. apart (place-apart n side h side' g one one' l lg e .0)) ∙ laid h l

@@ -4,25 +4,23 @@ use mathlib.Core.List.{List}
 use Prim.Native.Nat.{ℕ, _+_, _^_, _≤_, _<_}
 use native.Mathlib.Nat.{not-suc-le-zero}
 use native.Mathlib.Omega.{arith}
-use lib.ListN.{length, drop, set, length-set}
-use lib.Seq.{getD-set-same, getD-set-other, getD-take, getD-drop}
+use lib.ListN.{length, set, length-set}
+use lib.Seq.{getD-set-same, getD-set-other}
 use Rattle.definitions.specs.Sums.{at}
+use Rattle.theory.specs.Parts.{at-part}
 use Rattle.ranked_theory.specs.Layout.{place, resultPlace, result-in}
 use Rattle.ranked_theory.specs.Tables.{LayingBoth, laying-both-more, laying-both-all}
 use Rattle.ranked_theory.specs.Places.{at-next}
-use Rattle.ranked_within.specs.Within.{tableAt, Place, LaidWithin, ReadWithin}
-
-pub at-table : (k place : ℕ) (w : List ℕ) (h : ℕ) → h < 2 ^ k → at (tableAt k place w) h ≡ at w (place + h)
-at-table k place w h l = getD-take (2 ^ k) (drop place w) h 0 l ∙ getD-drop place w h 0
+use Rattle.ranked_within.specs.Within.{tableAt, Standing, LaidWithin, ReadWithin}
 
 -- ---- laying out
 
-module _ (k source : ℕ) (b xs : List ℕ) (p : Place k source xs) where
+module _ (k source : ℕ) (b xs : List ℕ) (p : Standing k source xs) where
   pub laying-more : (ys : List ℕ) (H i j x y : ℕ) → LayingBoth k (tableAt k source xs) b xs ys H → H < 2 ^ k → i ≡ place k 0 H → j ≡ place k 1 H
       → x ≡ at ys (source + H) → y ≡ at b H → LayingBoth k (tableAt k source xs) b xs (set (set ys i x) j y) (H + 1)
   laying-more ys H i j x y d t ei ej ex ey =
       laying-both-more d t (omega (arith, p .behind, p .inside)) i j x y ei ej
-      (ex ∙ d .behind (source + H) (omega (arith, p .behind)) ∙ sym (at-table k source xs H t)) ey
+      (ex ∙ d .behind (source + H) (omega (arith, p .behind)) ∙ sym (at-part source (2 ^ k) xs H t)) ey
 
   pub laying-all : (ys : List ℕ) (H : ℕ) → LayingBoth k (tableAt k source xs) b xs ys H → 2 ^ k ≤ H → LaidWithin k source b xs ys
   laying-all ys H d l = record { laid = laying-both-all d l; rest = d .behind }
@@ -35,7 +33,7 @@ pub record ReadingWithin (k target : ℕ) (xs ys : List ℕ) (H : ℕ) : Type 0 
   pub there : (h : ℕ) → h < H → at ys (target + h) ≡ at xs (resultPlace k h)
   pub rest : (x : ℕ) → ((h : ℕ) → h < H → x ≡ target + h → ⊥) → at ys x ≡ at xs x
 
-module _ (k target : ℕ) (xs : List ℕ) (p : Place k target xs) where
+module _ (k target : ℕ) (xs : List ℕ) (p : Standing k target xs) where
   pub reading-none : ReadingWithin k target xs xs 0
   reading-none = record { turn = omega arith; long = refl; there = λ h l. absurd (not-suc-le-zero l); rest = λ x o. refl }
 

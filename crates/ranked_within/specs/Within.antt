@@ -12,8 +12,8 @@ use Rattle.ranked_theory.specs.Recursion.{LaidBoth}
 abbrev pub tableAt : ℕ → ℕ → List ℕ → List ℕ
 tableAt k place w = take (2 ^ k) (drop place w)
 
--- a table of k controls at a place behind the rows
-pub record Place (k place : ℕ) (w : List ℕ) : Type 0 where
+-- a table of k controls stands at a place behind the rows
+pub record Standing (k place : ℕ) (w : List ℕ) : Type 0 where
   pub few : k ≤ 16
   pub behind : rowsLength k ≤ place
   pub inside : place + 2 ^ k ≤ length w
@@ -30,8 +30,8 @@ pub record ReadWithin (k target : ℕ) (w s : List ℕ) : Type 0 where
 
 -- tables of residues; source and target may be one place, or overlap
 pub record WithinReady (m k source target : ℕ) (b w : List ℕ) : Type 0 where
-  pub from : Place k source w
-  pub to : Place k target w
+  pub from : Standing k source w
+  pub to : Standing k target w
   pub left-below : (h : ℕ) → h < 2 ^ k → at w (source + h) < m
   pub right : length b ≡ 2 ^ k
   pub right-below : (h : ℕ) → h < 2 ^ k → at b h < m

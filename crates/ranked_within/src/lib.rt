@@ -4,7 +4,7 @@ ghost use mathlib.Core.Path.{_≡_};
 ghost use Prim.Native.Nat.{_^_};
 ghost use lib.ListN.{length};
 ghost use Rattle.residues.specs.Moduli.{Valid};
-ghost use Rattle.ranked_within.specs.Within.{Place, LaidWithin, ReadWithin, WithinReady, WithinMade};
+ghost use Rattle.ranked_within.specs.Within.{Standing, LaidWithin, ReadWithin, WithinReady, WithinMade};
 use pads::power_of_two;
 use ranked::multiply_rows;
 use ranked::place;
@@ -15,7 +15,7 @@ use sets::SetCode;
 
 // Lays both factors out in the rows in front: the table at the place, and b.
 fn lay_within(k: usize, source: usize, b: &[u32], workspace: &mut [u32])
-    requires { ⌜ Place k source (now workspace) ⌝ }
+    requires { ⌜ Standing k source (now workspace) ⌝ }
     requires { ⌜ length (now b) ≡ 2 ^ k ⌝ }
     ensures { λ _. ⌜ LaidWithin k source (now (b .entry)) (now (workspace .entry)) (now (workspace .exit)) ⌝ }
 {
@@ -32,7 +32,7 @@ fn lay_within(k: usize, source: usize, b: &[u32], workspace: &mut [u32])
 
 // The product, from the rows in front into the place.
 fn read_within(k: usize, target: usize, workspace: &mut [u32])
-    requires { ⌜ Place k target (now workspace) ⌝ }
+    requires { ⌜ Standing k target (now workspace) ⌝ }
     ensures { λ _. ⌜ ReadWithin k target (now (workspace .entry)) (now (workspace .exit)) ⌝ }
 {
     let size = power_of_two(k);

@@ -1,7 +1,7 @@
 -- Lists by a rule for their entries, and tables of remainders.
 --   tabulate   length, at, ext, append, self, of (a list that agrees with a rule at each place), set (one entry, by another rule)
 --   filled     a list whose first entries are set by a rule: what a loop that sets one entry a turn has so far
---              (filled-none before it, filled-more and turn for one turn, filled-block for a block, part, filled-all and whole at its end)
+--              (filled-none before it, turn for one turn, filled-block for a block, part, filled-all and whole at its end)
 --   residues   length, at, ext, self, of, filled, halves
 use mathlib.Core.Path.{_≡_, refl, sym, _∙_, ap, ap₂}
 use mathlib.Core.List.{List, [], _∷_, _++_, append-assoc, append-nil}
@@ -69,7 +69,7 @@ pub filled-none : (f : ℕ → ℕ) (r : List ℕ) → r ≡ filled f 0 r
 unfolding filled tabulate
 filled-none f r = refl
 
-pub filled-more : (f : ℕ → ℕ) (i : ℕ) (r : List ℕ) → i < length r → set (filled f i r) i (f i) ≡ filled f (i + 1) r
+filled-more : (f : ℕ → ℕ) (i : ℕ) (r : List ℕ) → i < length r → set (filled f i r) i (f i) ≡ filled f (i + 1) r
 unfolding filled tabulate
 filled-more f i r h =
     rw (drop-cons r i 0 h, set-at (tabulate i f) (getD r i 0) (drop (suc i) r) (f i) i (length-tabulate i f), add-one i)

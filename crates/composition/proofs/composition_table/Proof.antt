@@ -1,5 +1,4 @@
 use Prim.Native.Nat.{_-_}
-use denote.Ref.{now}
 use borrow.Author.Needs.{needs}
 use Rattle.composition.proofs.Levels.{Composing, row-fits, composing-first, level-ready, composing-more, composed}
 use Rattle.composition.proofs.composition_table.Statement.{statement}
@@ -32,18 +31,19 @@ part-copy-entries-end c = search needs
 copy-entries-requires : tie.Need-copy-entries-requires Inv-loop μ-loop
 copy-entries-requires c κs =
     let s = c .before .before .before .before .before in
-    row-fits (s .args .n) (s .args .modulus .value) _ (now (s .args .a)) (now (s .args .f)) (now (s .args .workspace)) (c .before .rows-length .ensures) (s .pre .1 .0) (s .pre .1 .1)
+    row-fits (c .before .rows-length .ensures) (s .pre .1 .0) (s .pre .1 .1)
 
 loop-holds : tie.Need-loop-holds Inv-loop μ-loop
 loop-holds c =
     let s = c .before .before .before .before .before .before .before .before in
     let copied = c .before .before .copy-entries in
-    composing-first (s .args .n) (s .args .modulus .value) _ (now (s .args .a)) (now (s .args .f)) (now (s .args .workspace)) (c .before .before .before .before .rows-length .ensures) (s .pre .1 .0) (s .pre .1 .1) _ (copied .ensures) (copied .kept .1 .1 .0)
+    composing-first (c .before .before .before .before .rows-length .ensures) (s .pre .1 .0) (s .pre .1 .1) _ (copied .ensures) (copied .kept .1 .1 .0)
 
 next-level-requires : tie.Need-next-level-requires Inv-loop μ-loop
 next-level-requires c κs =
-    let s = c .before .before .before .before .before .before .before .before .before .before .before in
-    (s .pre .0, level-ready (s .args .n) (s .args .modulus .value) _ (now (s .args .a)) (now (s .args .f)) (now (s .args .workspace)) (c .before .before .before .before .before .before .before .rows-length .ensures) (s .pre .1 .0) (s .pre .1 .1) _ _ _ (c .before .before .loop .inv) (c .before .loop-test .taken))
+    let start = c .before .before .before .before .before .before .before in
+    let s = start .before .before .before .before in
+    (s .pre .0, level-ready (start .rows-length .ensures) (s .pre .1 .0) (s .pre .1 .1) (c .before .before .loop .inv) (c .before .loop-test .taken))
 
 add-k : tie.Need-add-k Inv-loop μ-loop
 add-k c = search needs
@@ -53,9 +53,12 @@ loop-less c = search needs
 
 loop-again : tie.Need-loop-again Inv-loop μ-loop
 loop-again c =
-    let s = c .before .before .before .before .before .before .before .before .before .before .before .before .before .before in
+    let start = c .before .before .before .before .before .before .before .before .before .before in
+    let s = start .before .before .before .before in
     let made = c .before .before .next-level in
-    composing-more (s .args .n) (s .args .modulus .value) _ (now (s .args .a)) (now (s .args .f)) (now (s .args .workspace)) (c .before .before .before .before .before .before .before .before .before .before .rows-length .ensures) (s .pre .1 .0) (s .pre .1 .1) _ _ _ (c .before .before .before .before .before .loop .inv) _ (c .before .before .before .before .loop-test .taken) (made .ensures) (made .kept .1 .1 .1 .1 .1 .0)
+    let turn = c .before .before .before .before in
+    composing-more (start .rows-length .ensures) (s .pre .1 .0) (s .pre .1 .1) (turn .before .loop .inv) _ (turn .loop-test .taken)
+    (made .ensures) (made .kept .1 .1 .1 .1 .1 .0)
 
 same-length : tie.Need-same-length Inv-loop μ-loop
 same-length c = search needs
@@ -63,7 +66,7 @@ same-length c = search needs
 returns : tie.Need-returns Inv-loop μ-loop
 returns c =
     let s = c .before .before .before .before .before .before .before .before .before .before in
-    composed (s .args .n) (s .args .modulus .value) _ (now (s .args .a)) (now (s .args .f)) (now (s .args .workspace)) (c .before .before .before .before .before .before .rows-length .ensures) (s .pre .1 .0) (s .pre .1 .1) _ _ _ (c .before .loop .inv) (c .loop-test .left)
+    composed (c .before .before .before .before .before .before .rows-length .ensures) (s .pre .1 .0) (s .pre .1 .1) (c .before .loop .inv) (c .loop-test .left)
 
 pub composition-table-spec : {M : Type 1} → statement M
 composition-table-spec =

@@ -47,7 +47,7 @@ loop-again : tie.Need-loop-again Inv-loop μ-loop
 loop-again c =
     let s = c .before .before .before in
     let inv = c .before .before .loop .inv in
-    (search needs, search needs, copied-more (s .args .size) (s .args .source) (s .args .target) (c .before .before .loop .i) (now (s .args .workspace)) (c .before .before .loop .workspace) (s .pre) (c .before .loop-test .taken) (inv .1) (inv .2) _ refl)
+    (search needs, search needs, copied-more (s .pre) (c .before .loop-test .taken) (inv .1) (inv .2) _ refl)
 
 same-length : tie.Need-same-length Inv-loop μ-loop
 same-length c = search needs

@@ -1,5 +1,4 @@
 use native.Mathlib.Omega.{arith}
-use denote.Ref.{now}
 use borrow.Author.Needs.{needs}
 use Rattle.composition.proofs.Levels.{Raising, raising-none, turn-ready, raising-more, raised}
 use Rattle.composition.proofs.next_level.Statement.{statement}
@@ -17,7 +16,7 @@ sub-i c = search needs
 loop-holds : tie.Need-loop-holds Inv-loop μ-loop
 loop-holds c =
     let s = c .before .before in
-    raising-none (s .args .n) (s .args .k) (s .args .modulus .value) (s .args .start) (now (s .args .a)) (now (s .args .workspace)) (s .pre .1)
+    raising-none (s .pre .1)
 
 sub-i-2 : tie.Need-sub-i-2 Inv-loop μ-loop
 sub-i-2 c = search needs
@@ -26,7 +25,7 @@ next-table-requires : tie.Need-next-table-requires Inv-loop μ-loop
 next-table-requires c κs =
     let s = c .before .before .before .before .before in
     let v = c .before .before .loop in
-    (s .pre .0, turn-ready (s .args .n) (s .args .k) (s .args .modulus .value) (s .args .start) (now (s .args .a)) (now (s .args .workspace)) (s .pre .1) (v .i) (v .workspace) (c .before .loop-test .taken) (v .inv) (omega (arith, s .pre .0 .lowest)))
+    (s .pre .0, turn-ready (s .pre .1) (c .before .loop-test .taken) (v .inv) (omega (arith, s .pre .0 .lowest)))
 
 loop-less : tie.Need-loop-less Inv-loop μ-loop
 loop-less c = search needs
@@ -36,7 +35,7 @@ loop-again c =
     let s = c .before .before .before .before .before .before .before .before in
     let v = c .before .before .before .before .before .loop in
     let made = c .before .before .next-table in
-    raising-more (s .args .n) (s .args .k) (s .args .modulus .value) (s .args .start) (now (s .args .a)) (now (s .args .workspace)) (s .pre .1) (v .i) (v .workspace) (c .before .before .before .before .loop-test .taken) (v .inv)
+    raising-more (s .pre .1) (c .before .before .before .before .loop-test .taken) (v .inv)
     (made .last .1 .1 .1 .1 .1 .0) (made .ensures) (made .kept .1 .1 .1 .1 .1 .0)
 
 same-length : tie.Need-same-length Inv-loop μ-loop
@@ -46,7 +45,7 @@ returns : tie.Need-returns Inv-loop μ-loop
 returns c =
     let s = c .before .before .before .before in
     let v = c .before .loop in
-    raised (s .args .n) (s .args .k) (s .args .modulus .value) (s .args .start) (now (s .args .a)) (now (s .args .workspace)) (s .pre .1) (v .i) (v .workspace) (omega arith) (v .inv)
+    raised (s .pre .1) (omega arith) (v .inv)
 
 pub next-level-spec : {M : Type 1} → statement M
 next-level-spec =

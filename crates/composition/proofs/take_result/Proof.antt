@@ -26,7 +26,9 @@ same-length : tie.Need-same-length
 same-length c = search needs
 
 returns : tie.Need-returns
-returns c = result-taken (c .before .before .before .before .before .rows-length .ensures) (c .before .before .before .before .before .before .before .before .pre) (c .before .before .copy-entries .ensures)
+returns c =
+    let start = c .before .before .before .before .before in
+    result-taken (start .rows-length .ensures) (start .before .before .before .pre) (c .before .before .copy-entries .ensures)
 
 pub take-result-spec : {M : Type 1} → statement M
 take-result-spec =

@@ -1,13 +1,13 @@
 use mathlib.Core.Path.{_≡_, sym, ap, _∙_}
 use mathlib.Core.List.{List}
 use Prim.Native.Nat.{ℕ, suc, _+_, _-_, _^_, _<_, max}
-use native.Mathlib.Nat.{le-of-eq}
 use native.Mathlib.Omega.{arith}
 use lib.ListN.{length, take, drop, length-drop}
-use lib.Seq.{take-all, length-take-le}
+use lib.Seq.{length-take-le}
 use borrow.Author.Needs.{needs}
 use borrow.Fn.Kinds.{In}
 use borrow.Fn.PlainCycle.{Measures, is, falls, and}
+use Rattle.theory.specs.Parts.{part-behind}
 use Rattle.degrees.specs.Parts.{partDegree, part-single, part-most, part-halves}
 use Rattle.degrees.proofs.degree_of_part.Reads as degree-of-part
 use Rattle.degrees.proofs.degree_of_part.Kinds as degree-of-part-kinds
@@ -30,12 +30,11 @@ halved : (q mid : ℕ) (a : List ℕ) → (q ≡ 0 → ⊥) → mid ≡ 2 ^ (q -
 halved q mid a some e long =
     let back : q ≡ suc (q - 1) = omega arith in
     let two : length a ≡ mid + mid = long ∙ ap (λ (k : ℕ). 2 ^ k) back ∙ omega arith in
-    let rest : take (length a - mid) (drop mid a) ≡ drop mid a = take-all (length a - mid) (drop mid a) (le-of-eq (length-drop mid a)) in
     record {
       twice = two;
       lower = sym (length-take-le mid a (omega arith));
-      upper = rw (rest, length-drop) (omega arith);
-      both = λ d. rw (rest, e) (ap (λ (k : ℕ). partDegree k d a) back ∙ part-halves (q - 1) d a);
+      upper = rw (part-behind mid a, length-drop) (omega arith);
+      both = λ d. rw (part-behind mid a, e) (ap (λ (k : ℕ). partDegree k d a) back ∙ part-halves (q - 1) d a);
     }
 
 abbrev μ-degree-of-part : Measures 1 degree-of-part-kinds.ps ℕ

@@ -1,6 +1,7 @@
+use mathlib.Core.Path.{refl}
 use native.Mathlib.Omega.{arith}
 use borrow.Author.Needs.{needs}
-use Rattle.exponential.proofs.Halves.{lower-long, upper-long, left-ready, right-ready, both-ready, upper-filled}
+use Rattle.exponential.proofs.Halves.{half-long, upper-long, left-ready, right-ready, both-ready, upper-filled}
 use Rattle.exponential.proofs.fill_upper.Statement.{statement}
 use Rattle.exponential.proofs.fill_upper.Tie as tie
 
@@ -11,7 +12,7 @@ slice-reshare-prefix-lay-out : tie.Need-slice-reshare-prefix-lay-out
 slice-reshare-prefix-lay-out c = search needs
 
 slice-aggregate-lay-out : tie.Need-slice-aggregate-lay-out
-slice-aggregate-lay-out c = lower-long (c .before .power-of-two .ensures) (c .before .before .before .before .pre .1)
+slice-aggregate-lay-out c = half-long refl (c .before .power-of-two .ensures) (c .before .before .before .before .pre .1)
 
 lay-out-requires : tie.Need-lay-out-requires
 lay-out-requires c κs = (left-ready (c .before .before .power-of-two .ensures) (c .before .before .before .before .before .pre .1), omega arith)

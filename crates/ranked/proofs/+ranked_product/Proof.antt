@@ -74,8 +74,10 @@ ranked-product-slice-aggregate-ranked-product t c = sym (turns.first-long _ _ _ 
 
 ranked-product-ranked-product-requires : (t : ℕ) → ranked-product-lts.Need-ranked-product-requires (calls t) (ranked-product-at t) ranked-product.Post
 ranked-product-ranked-product-requires t c κs =
-    let s = c .before .before .before .before .before .before .before .before .before in
-    (omega (arith, s .pre .0, c .before .before .before .before .before .before .before .if1 .left), (s .pre .1 .0, level t (c .before .before .before .before .before) .first-ready _ (c .before .before .before .add-lower .ensures) (c .before .before .before .add-lower .kept .1 .1 .1 .1 .0)))
+    let down = c .before .before .before in
+    let s = down .before .before .before .before .before .before in
+    let ready = level t (down .before .before) .first-ready _ (down .add-lower .ensures) (down .add-lower .kept .1 .1 .1 .1 .0) in
+    (omega (arith, s .pre .0, down .before .before .before .before .if1 .left), (s .pre .1 .0, ready))
 
 ranked-product-add-t13 : (t : ℕ) → ranked-product-lts.Need-add-t13 (calls t) (ranked-product-at t) ranked-product.Post
 ranked-product-add-t13 t c = search needs
@@ -84,10 +86,14 @@ ranked-product-mul-ranked-product : (t : ℕ) → ranked-product-lts.Need-mul-ra
 ranked-product-mul-ranked-product t c = omega (arith, level t (c .before .before .before .before .before .before .before .before .before) .long, c .before .before .before .before .before .before .before .before .before .before .before .before .before .good)
 
 ranked-product-sub-ranked-product : (t : ℕ) → ranked-product-lts.Need-sub-ranked-product (calls t) (ranked-product-at t) ranked-product.Post
-ranked-product-sub-ranked-product t c = turns.mid-in _ _ _ _ _ _ _ _ (level t (c .before .before .before .before .before .before .before .before .before)) _ (c .before .before .before .before .before .before .before .add-lower .ensures) (c .before .before .before .before .before .before .before .add-lower .kept .1 .1 .1 .1 .0) (c .before .before .before .ranked-product .last .1 .1 .1 .1 .0) (c .before .before .before .ranked-product .kept .1 .1 .1 .1 .0)
+ranked-product-sub-ranked-product t c =
+    let down = c .before .before .before .before .before .before .before in
+    let first = c .before .before .before .ranked-product in
+    turns.mid-in _ _ _ _ _ _ _ _ (level t (down .before .before)) _ (down .add-lower .ensures) (down .add-lower .kept .1 .1 .1 .1 .0)
+    (first .last .1 .1 .1 .1 .0) (first .kept .1 .1 .1 .1 .0)
 
 ranked-product-part-ranked-product-start : (t : ℕ) → ranked-product-lts.Need-part-ranked-product-start (calls t) (ranked-product-at t) ranked-product.Post
-ranked-product-part-ranked-product-start t c = turns.mid-in _ _ _ _ _ _ _ _ (level t (c .before .before .before .before .before .before .before .before .before)) _ (c .before .before .before .before .before .before .before .add-lower .ensures) (c .before .before .before .before .before .before .before .add-lower .kept .1 .1 .1 .1 .0) (c .before .before .before .ranked-product .last .1 .1 .1 .1 .0) (c .before .before .before .ranked-product .kept .1 .1 .1 .1 .0)
+ranked-product-part-ranked-product-start t c = ranked-product-sub-ranked-product t c
 
 ranked-product-part-ranked-product-end : (t : ℕ) → ranked-product-lts.Need-part-ranked-product-end (calls t) (ranked-product-at t) ranked-product.Post
 ranked-product-part-ranked-product-end t c = search needs

@@ -5,7 +5,7 @@ use lib.Pow.{pow-mono}
 use Rattle.definitions.specs.Sets.{size}
 use Rattle.theory.specs.Codes.{size-le, size-zero}
 use Rattle.ranked_theory.specs.Rows.{Subtracted, backFrom, backCount}
-use Rattle.ranked_theory.specs.RowSteps.{Passing, passing-none, passing-ready, passing-more, passing-all, back-ready, back-step}
+use Rattle.ranked_theory.specs.RowSteps.{Passing, passing-none, passing-ready, passing-more, passing-all, row-ready-as, row-step-as}
 use borrow.Author.Needs.{needs}
 use Rattle.ranked_rows.proofs.subtract_lower.Statement.{statement}
 use Rattle.ranked_rows.proofs.subtract_lower.Tie as tie
@@ -28,8 +28,7 @@ mul-mid : tie.Need-mul-mid Inv-loop μ-loop
 mul-mid c = omega (arith, ap (λ (x : ℕ). x * c .before .before .args .w) (c .power-of-two .ensures), c .before .before .pre .1 .0 .long)
 
 loop-holds : tie.Need-loop-holds Inv-loop μ-loop
-unfolding lib.Count.ones
-loop-holds c = (size-zero, passing-none _ _ _ _ _ _ (c .power-of-two .ensures))
+loop-holds c = (sym size-zero, passing-none _ _ _ _ _ _ (c .power-of-two .ensures))
 
 add-t13 : tie.Need-add-t13 Inv-loop μ-loop
 add-t13 c =
@@ -43,7 +42,7 @@ subtract-row-requires c κs =
     let turn = c .before .before .before in
     let inv = turn .before .loop .inv in (
       s .pre .0,
-      back-ready (ap (λ (k : ℕ). k + a .d .0) (sym (inv .0))) (a .e .0)
+      row-ready-as (ap (λ (k : ℕ). k + a .d .0) (sym (inv .0))) (a .e .0)
           (passing-ready _ (λ u. backFrom (a .w) (a .e .0) (size u + a .d .0)) (λ u. backCount (a .e .0) (size u + a .d .0)) (s .pre .1 .0) (inv .1) (turn .loop-test .taken)),
     )
 
@@ -62,7 +61,7 @@ loop-again c =
     let v = turn .before .loop in
     let d = c .before .before .before .before .before .before .before .before .before .before .before .args .d .0 in
     let done = c .before .before .before .subtract-row in
-    (c .next-size .ensures, passing-more (v .inv .1) (turn .loop-test .taken) (back-step (ap (λ (s : ℕ). s + d) (v .inv .0)) _ (done .ensures)) (done .kept .1 .1 .1 .1 .1 .1 .0))
+    (c .next-size .ensures, passing-more (v .inv .1) (turn .loop-test .taken) (row-step-as (ap (λ (s : ℕ). s + d) (v .inv .0)) _ (done .ensures)) (done .kept .1 .1 .1 .1 .1 .1 .0))
 
 same-length : tie.Need-same-length Inv-loop μ-loop
 same-length c = c .before .loop .inv .1 .long

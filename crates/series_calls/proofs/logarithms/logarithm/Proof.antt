@@ -1,4 +1,3 @@
-use mathlib.Core.Path.{_∙_}
 use Prim.Native.Nat.{ℕ}
 use native.Mathlib.Nat.{le-refl}
 use native.Mathlib.Omega.{arith}
@@ -10,7 +9,7 @@ use Rattle.theory.specs.Logarithm.{logarithmOf}
 use Rattle.checks.specs.Accepted.{Single}
 use Rattle.checks.specs.Answers.{accepted}
 use Rattle.checks.specs.Ends.{Lent, used-in, part-long, clear-fits, front-cleared, accepted-call, refused-call}
-use Rattle.composition_calls.specs.Cores.{started, ready, result-ready, result-is}
+use Rattle.composition_calls.specs.Cores.{started, ready, result-ready, result-taken}
 use Rattle.series_calls.proofs.Logging.{is-logarithm}
 use Rattle.series_calls.proofs.logarithms.logarithm.Statement.{statement}
 use Rattle.series_calls.proofs.logarithms.logarithm.Tie as tie
@@ -53,7 +52,7 @@ take-result-requires c κs =
     let lending = at .before .before in
     let made = at .logarithm-table in
     let facts = found (lending .before .before) in
-    result-ready (lent lending) (made .last .1 .1 .1 .0) (made .kept .1 .1 .1 .0) (facts .range .few) _ (facts .result)
+    result-ready _ (lent lending) (made .last .1 .1 .1 .0) (made .kept .1 .1 .1 .0) (facts .range .few) _ (facts .result)
 
 clear-requires : tie.Need-clear-requires
 clear-requires c κs =
@@ -79,7 +78,8 @@ returns c =
     let s = start accepting .args in
     let h = accepting .before .before .check-start .ensures in
     let e = accepting .modulus .given .1 in
-    let end = accepted-call h e (λ (m : ℕ). logarithmOf (s .n) m (now (s .e))) (c .before .before .before .before .before .before .take-result .ensures ∙ result-is (lent lending) (made .last .1 .1 .1 .0) (made .kept .1 .1 .1 .0) ∙ made .ensures)
+    let end = accepted-call h e (λ (m : ℕ). logarithmOf (s .n) m (now (s .e)))
+    (result-taken (s .n) (lent lending) _ (made .kept .1 .1 .1 .0) (made .ensures) (c .before .before .before .before .before .before .take-result .ensures))
     _ _ (front-cleared (lent lending) (le-refl _) (made .last .1 .1 .1 .0) (made .kept .1 .1 .1 .0) (c .before .before .clear .ensures)) in
     (end .0, (end .1 .0, ((λ z. is-logarithm _ _ _ _ _ (accepted h e) (end .1 .0)), end .1 .1)))
 
