@@ -41,10 +41,13 @@ IsTable n m a = Entries (2 ^ n) m a
 abbrev pub IsRow : ℕ → ℕ → List ℕ → Type 0
 IsRow n m f = Entries (n + 1) m f
 
+pub few-controls : (n : ℕ) → panelWord n ≡ 0 → n ≤ mostControls
+few-controls n e = ltb-false mostControls n (no-word (ltb mostControls n) 1 (λ z. omega arith) e)
+
 pub in-range : {n m : ℕ} → panelWord n ≡ 0 → modulusWord m ≡ 0 → InRange n m
 in-range {n} {m} p q =
     record {
-      few = ltb-false _ _ (no-word (ltb mostControls n) 1 (λ z. omega arith) p);
+      few = few-controls n p;
       lowest = valid-modulus m q .lowest;
       largest = valid-modulus m q .largest;
     }

@@ -1,10 +1,11 @@
 -- How a call ends: the pad that it worked in, and what it answers for an `Accepted` or a `Refused`.
---   Lent, used-in, part-long     a call lends the part of its pad that it may use, or the front of that part, to a worker
---   clear-fits, front-cleared    whatever the worker left there, clearing the part makes it what 01 promises
+--   Usable, used-in, part-long   a call lends the part of its pad that it may use, or the front of that part, to a worker; Lent: of W
+--   table-fits                   a table is such a front
+--   clear-fits, front-cleared    whatever the worker left there, clearing the part makes the pad what the call promises
 --   accepted-call, refused-call  number, result and pad; refused-result without the pad
 use mathlib.Core.Path.{_≡_, sym, ap, _∙_}
 use mathlib.Core.List.{List, _++_}
-use Prim.Native.Nat.{ℕ, _+_, _-_, _≤_}
+use Prim.Native.Nat.{ℕ, _+_, _-_, _^_, _≤_}
 use native.Mathlib.Omega.{arith}
 use lib.ListN.{length, take, drop}
 use lib.Seq.{length-take-le, length-front, drop-at, drop-drop}
@@ -18,12 +19,20 @@ use Rattle.checks.specs.declared.Checked.the-variants.{Accepted, Refused
 
 -- ---- the pad
 
--- a call on n controls may use so many entries of its pad, and has them
-pub record Lent (n used : ℕ) (pad : List ℕ) : Type 0 where
-  pub used-is : used ≡ padLength n
-  pub room : padLength n ≤ length pad
+-- a call may use so many entries of its pad, and has them
+pub record Usable (most used : ℕ) (pad : List ℕ) : Type 0 where
+  pub used-is : used ≡ most
+  pub room : most ≤ length pad
 
-module _ {n used : ℕ} {pad : List ℕ} (h : Lent n used pad) where
+-- 01's W entries, for n controls
+abbrev pub Lent : ℕ → ℕ → List ℕ → Type 0
+Lent n used pad = Usable (padLength n) used pad
+
+pub table-fits : (n : ℕ) → 2 ^ n ≤ padLength n
+unfolding padLength
+table-fits n = omega arith
+
+module _ {most used : ℕ} {pad : List ℕ} (h : Usable most used pad) where
   pub used-in : used ≤ length pad
   used-in = omega (arith, h .used-is, h .room)
 
@@ -46,7 +55,7 @@ module _ {n used : ℕ} {pad : List ℕ} (h : Lent n used pad) where
           ∙ drop-drop (used - long) long pad
           ∙ ap (λ (k : ℕ). drop k pad) (sym split)
 
-      pub front-cleared : {last : List ℕ} → last ≡ cleared used (new ++ drop long pad) → last ≡ cleared (padLength n) pad
+      pub front-cleared : {last : List ℕ} → last ≡ cleared used (new ++ drop long pad) → last ≡ cleared most pad
       unfolding cleared
       front-cleared e =
           e ∙ ap (λ (l : List ℕ). tabulate used (λ i. 0) ++ l) rest

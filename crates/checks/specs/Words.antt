@@ -2,7 +2,7 @@
 -- call leaves.
 use mathlib.Core.Path.{_≡_, refl, _∙_, ap}
 use mathlib.Core.Bool.{Bool, true, false}
-use mathlib.Core.List.{List, [], _∷_}
+use mathlib.Core.List.{List, [], _∷_, _++_}
 use Prim.Native.Nat.{ℕ, zero, suc}
 use native.Mathlib.Nat.{suc-ne-zero}
 use Rattle.definitions.specs.Refusals.{wordIf, orElse, firstWord, after, valueAfter}
@@ -44,6 +44,13 @@ all-zero (k ∷ ks) e = (orElse-first k (firstWord ks) e, all-zero ks (orElse-se
 infixr 20 _and_
 pub _and_ : {j k : ℕ} → j ≡ 0 → k ≡ 0 → orElse j k ≡ 0
 _and_ {j} {k} e f = orElse-go j k e ∙ f
+
+-- one more test behind some tests
+pub one-more-word : (ks : List ℕ) (w : ℕ) → firstWord (ks ++ (w ∷ [])) ≡ orElse (firstWord ks) w
+one-more-word [] zero = refl
+one-more-word [] (suc w) = refl
+one-more-word (zero ∷ ks) w = one-more-word ks w
+one-more-word (suc k ∷ ks) w = refl
 
 -- ---- a refused call whose number is k: memory that it was lent, and what it returns beside the number
 

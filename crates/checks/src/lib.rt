@@ -52,8 +52,9 @@ fn modulus_checked(m: u32) -> Checked
     }
 }
 
-// The test of the modulus, and then the word of the tests behind it.
-fn check_modulus(m: u32, word: u32) -> Checked
+// The test of the modulus, and then the word of the tests behind it. Public, because a call that tests in its own crate ends
+// its test with it.
+pub fn check_modulus(m: u32, word: u32) -> Checked
     ensures { λ r. ⌜ IsChecked m (orElse (modulusWord m) word) r ⌝ }
 {
     modulus_checked(m).also(word)

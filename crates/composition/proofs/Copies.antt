@@ -13,7 +13,7 @@ use Rattle.composition.specs.Slots.{CopyReady, Copied}
 pub copied-none : (source target : ℕ) (r : List ℕ) → Copied 0 source target r r
 copied-none source target r = record { there = λ j h. omega arith; before = λ x h. refl; behind = λ x h. refl }
 
-module _ (size source target i : ℕ) (r s : List ℕ) (d : CopyReady size source target r) (l : i < size) (same : length s ≡ length r)
+module _ {size source target i : ℕ} {r s : List ℕ} (d : CopyReady size source target r) (l : i < size) (same : length s ≡ length r)
     (c : Copied i source target r s) where
   -- what is read has not been overwritten
   pub unread : at s (source + i) ≡ at r (source + i)

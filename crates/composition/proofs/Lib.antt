@@ -1,4 +1,3 @@
-pub mod Parts
 pub mod Upper
 pub mod Copies
 pub mod Places

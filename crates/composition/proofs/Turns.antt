@@ -8,11 +8,12 @@ use native.Mathlib.Omega.{arith}
 use Rattle.definitions.specs.Sums.{at}
 use Rattle.definitions.specs.Partitions.{compositionSum}
 use Rattle.theory.specs.Lists.{at-residues}
+use Rattle.theory.specs.Parts.{at-part}
 use Rattle.theory.specs.Codes.{by-top}
 use Rattle.theory.specs.Halves.{Row, shift}
 use Rattle.theory.specs.Composition.{composition-lo}
-use Rattle.composition.specs.Slots.{from, Slots, Turned, tableAt}
-use Rattle.composition.proofs.Parts.{at-part}
+use Rattle.ranked_within.specs.Within.{tableAt}
+use Rattle.composition.specs.Slots.{from, Slots, Turned}
 use Rattle.composition.proofs.Upper.{composition-upper}
 
 -- a slot of the next size is two slots

@@ -3,12 +3,13 @@ use mathlib.Core.Path.{_≡_}
 use mathlib.Core.List.{List}
 use mathlib.Core.Logic.{_⊎_}
 use Prim.Native.Nat.{ℕ, suc, _+_, _-_, _*_, _%_, _^_, _<_, _≤_}
-use lib.ListN.{length, take, drop}
+use lib.ListN.{length, drop}
 use Rattle.definitions.specs.Limits.{mostControls}
 use Rattle.definitions.specs.Sums.{at}
 use Rattle.definitions.specs.Products.{subsetTable}
 use Rattle.definitions.specs.Partitions.{compositionSum}
-use Rattle.composition.specs.Ready.{rowsLength}
+use Rattle.ranked_theory.specs.Layout.{rowsLength}
+use Rattle.ranked_within.specs.Within.{tableAt}
 
 -- ---- a table copied to its own place or behind itself
 
@@ -22,37 +23,18 @@ pub record Copied (size source target : ℕ) (r s : List ℕ) : Type 0 where
   pub before : (x : ℕ) → x < target → at s x ≡ at r x
   pub behind : (x : ℕ) → target + size ≤ x → at s x ≡ at r x
 
--- ---- a product into a place of the result
-
--- the table of k controls that starts at a place
-abbrev pub tableAt : ℕ → ℕ → List ℕ → List ℕ
-tableAt k place l = take (2 ^ k) (drop place l)
-
-pub record SlotReady (k m source target : ℕ) (a r w : List ℕ) : Type 0 where
-  pub few : suc k ≤ mostControls
-  pub entries : 2 ^ suc k ≤ length a
-  pub below : (S : ℕ) → S < 2 ^ suc k → at a S < m
-  pub source-in : source + 2 ^ k ≤ length r
-  pub target-in : target + 2 ^ k ≤ length r
-  pub source-below : (S : ℕ) → S < 2 ^ k → at r (source + S) < m
-  pub room : rowsLength k ≤ length w
-
-pub record SlotMultiplied (k m source target : ℕ) (a r s : List ℕ) : Type 0 where
-  pub there : (S : ℕ) → S < 2 ^ k → at s (target + S) ≡ at (subsetTable k m (tableAt k source r) (tableAt k (2 ^ k) a)) S
-  pub before : (x : ℕ) → x < target → at s x ≡ at r x
-  pub behind : (x : ℕ) → target + 2 ^ k ≤ x → at s x ≡ at r x
-
 -- ---- one table of the next size
 
-pub record TurnReady (k i m : ℕ) (a r w : List ℕ) : Type 0 where
+-- the tables stand in w from start on, behind the rows of their products
+pub record TurnReady (k i m start : ℕ) (a w : List ℕ) : Type 0 where
   pub few : suc k ≤ mostControls
   pub entries : 2 ^ suc k ≤ length a
   pub below : (S : ℕ) → S < 2 ^ suc k → at a S < m
-  pub inside : 2 * (suc i * 2 ^ k) ≤ length r
-  pub both-below : (x : ℕ) → i * 2 ^ k ≤ x → x < suc (suc i) * 2 ^ k → at r x < m
-  pub room : rowsLength k ≤ length w
+  pub rows : rowsLength k ≤ start
+  pub inside : start + 2 * (suc i * 2 ^ k) ≤ length w
+  pub both-below : (x : ℕ) → i * 2 ^ k ≤ x → x < suc (suc i) * 2 ^ k → at w (start + x) < m
 
--- s is r after the step
+-- s is r, the tables from start on, after the step
 pub record Turned (k i m : ℕ) (a r s : List ℕ) : Type 0 where
   pub lower : (S : ℕ) → S < 2 ^ k → at s (2 * (i * 2 ^ k) + S) ≡ at r (i * 2 ^ k + S)
   pub upper : (S : ℕ) → S < 2 ^ k → at s (2 * (i * 2 ^ k) + 2 ^ k + S) ≡ at (subsetTable k m (tableAt k (suc i * 2 ^ k) r) (tableAt k (2 ^ k) a)) S
@@ -70,15 +52,15 @@ pub record Slots (m k low high : ℕ) (f A : ℕ → ℕ) (r : List ℕ) : Type 
   pub slot : (i S : ℕ) → low ≤ i → i < high → S < 2 ^ k → at r (i * 2 ^ k + S) ≡ compositionSum k (from i f) A S % m
 
 -- the tables of k controls at level k of a composition with some row
-pub record LevelReady (n k m : ℕ) (a r w : List ℕ) : Type 0 where
+pub record LevelReady (n k m start : ℕ) (a w : List ℕ) : Type 0 where
   pub few : n ≤ mostControls
   pub more : k < n
   pub long : length a ≡ 2 ^ n
   pub below : (S : ℕ) → S < 2 ^ n → at a S < m
-  pub as-long : length r ≡ 2 ^ n
-  pub room : rowsLength n ≤ length w
+  pub rows : rowsLength n ≤ start
+  pub room : start + 2 ^ n ≤ length w
   pub row : ℕ → ℕ
-  pub slots : Slots m k 0 (suc (n - k)) row (at a) r
+  pub slots : Slots m k 0 (suc (n - k)) row (at a) (drop start w)
 
 -- whatever the row is, its tables of k controls have become those of k + 1
 abbrev pub LevelRaised : ℕ → ℕ → ℕ → List ℕ → List ℕ → List ℕ → Type 0

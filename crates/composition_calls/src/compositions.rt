@@ -15,7 +15,8 @@ pub fn composition(n: u32, m: u32, a: &[u32], f: &[u32], result: &mut [u32], pad
     match checks::check_composition(n, m, a, f, result.len(), pad.len()) {
         Checked::Accepted(modulus) => {
             let used = checks::pad_length(n);
-            composition::composition_table(n as usize, modulus, a, f, result, &mut pad[..used]);
+            composition::composition_table(n as usize, modulus, a, f, &mut pad[..used]);
+            composition::take_result(n as usize, pad, result);
             checks::clear(used, pad);
             0
         }

@@ -15,7 +15,8 @@ pub fn exponential(n: u32, m: u32, a: &[u32], result: &mut [u32], pad: &mut [u32
     match checks::check_start(n, m, 0, a, result.len(), pad.len()) {
         Checked::Accepted(modulus) => {
             let used = checks::pad_length(n);
-            exponential::exponential_table(n as usize, modulus, a, result, &mut pad[..used]);
+            pointwise::copy(a, result);
+            exponential::exponential_table(n as usize, modulus, result, &mut pad[..used]);
             checks::clear(used, pad);
             0
         }

@@ -1,14 +1,13 @@
-// One step of the ranked recursion on rows: step 1 (down), step 2 (back) and step 3 (one entry) of 001 section 1. Row h has 2n + 2
-// numbers. On the way down the two factors lie side by side, the left one's rank k at 2 (|h| - k) and the right one's next to it;
-// from one entry up, the row holds the result's rank |h| + i at 2n - i. Since ranks are counted from |h|, a row starts with what its
-// entry is made of and ends with what it becomes.
+// Where rows hold what, and one step of the ranked recursion on them: step 1 (down), step 2 (back) and step 3 (one entry) of 001
+// section 1. Row h has 2n + 2 numbers. On the way down the two factors lie side by side, the left one's rank k at 2 (|h| - k) and the
+// right one's next to it; from one entry up, the row holds the result's rank |h| + i at 2n - i. Since ranks are counted from |h|, a row
+// starts with what its entry is made of and ends with what it becomes.
 ghost use mathlib.Core.Path.{_≡_};
-ghost use Prim.Native.Nat.{_+_, _-_, _*_, _^_, _≤_, min};
+ghost use Prim.Native.Nat.{_+_, _-_, _*_, _^_, _<_, _≤_, min};
 ghost use Rattle.definitions.specs.Sets.{size};
 ghost use Rattle.residues.specs.Moduli.{Valid, Residue};
-ghost use Rattle.sets.specs.Sizes.{ByteSizes};
 ghost use Rattle.ranked_theory.specs.Rows.{Added, Subtracted, RowStep, RowReady, RowsStep, RowsReady, backFrom, backCount, coefficient, RanksBelow, RowOfResidues, Multiplied};
-ghost use Rattle.ranked_theory.specs.Recursion.{width};
+ghost use Rattle.ranked_theory.specs.Layout.{width, rowsLength, place, resultPlace};
 pub use pads::power_of_two;
 use ranked_runs::add_run;
 use ranked_runs::store_pair;
@@ -29,6 +28,30 @@ pub fn row_width(n: usize) -> usize
     ensures { λ r. ⌜ r ≡ width n ⌝ }
 {
     2 * n + 2
+}
+
+// How many numbers the rows of a product have.
+pub fn rows_length(n: usize) -> usize
+    requires { ⌜ n ≤ 16 ⌝ }
+    ensures { λ r. ⌜ r ≡ rowsLength n ⌝ }
+{
+    power_of_two(n) * row_width(n)
+}
+
+// Where the rows hold the entry of set h in the factor at that side, 0 the left one and 1 the right one.
+pub fn place(n: usize, side: usize, h: SetCode) -> usize
+    requires { ⌜ (n ≤ 16) × (side ≤ 1) × (h .0 < 2 ^ n) ⌝ }
+    ensures { λ r. ⌜ r ≡ place n side (h .0) ⌝ }
+{
+    h.0 * row_width(n) + side
+}
+
+// Where the rows hold the entry of set h in the product.
+pub fn result_place(n: usize, h: SetCode) -> usize
+    requires { ⌜ (n ≤ 16) × (h .0 < 2 ^ n) ⌝ }
+    ensures { λ r. ⌜ r ≡ resultPlace n (h .0) ⌝ }
+{
+    h.0 * row_width(n) + 2 * n
 }
 
 // Step 1 for one row u of the lower half: the ranks from |h| - |h0| to |h|, the highest first. The row above has one control more,
@@ -62,12 +85,11 @@ pub fn add_lower(modulus: Modulus, p: usize, d: SetSize, w: usize, rows: &mut [u
     }
 }
 
-// Step 2 for one row u of the lower half: from its size |h| = |u| + d to |h| + e, and none past 2 |h|. The lowest of these ranks
+// Step 2 for one row u of the lower half, whose set has the size |h|: from |h| to |h| + e, and none past 2 |h|. The lowest of these ranks
 // stands last but one in its row and last in the row above.
 fn subtract_row(
     modulus: Modulus,
-    sizes: &[u8; 256],
-    d: SetSize,
+    size: SetSize,
     e: SetSize,
     w: usize,
     mid: usize,
@@ -75,21 +97,18 @@ fn subtract_row(
     rows: &mut [u32],
 )
     requires { ⌜ Valid modulus ⌝ }
-    requires { ⌜ ByteSizes (now sizes) ⌝ }
-    requires { ⌜ RowReady (modulus .value) 1 (backFrom w (e .0) (size (u .0) + d .0)) (backCount (e .0) (size (u .0) + d .0)) w mid (u .0) (now rows) ⌝ }
-    requires { ⌜ d .0 ≤ 16 ⌝ }
-    ensures { λ _. ⌜ RowStep (Subtracted (modulus .value) w (e .0) (size (u .0) + d .0)) 1 w mid (u .0) (now (rows .entry)) (now (rows .exit)) ⌝ }
+    requires { ⌜ RowReady (modulus .value) 1 (backFrom w (e .0) (size .0)) (backCount (e .0) (size .0)) w mid (u .0) (now rows) ⌝ }
+    ensures { λ _. ⌜ RowStep (Subtracted (modulus .value) w (e .0) (size .0)) 1 w mid (u .0) (now (rows .entry)) (now (rows .exit)) ⌝ }
 {
-    let low = u.size_by(sizes);
-    let more = lesser(e, SetSize(low.0 + d.0));
+    let more = lesser(e, size);
     let first = u.0 * w + (w - 2 - more.0);
     subtract_run(modulus, first, mid + first + 1, more.0 + 1, rows);
 }
 
-// Step 2: each row of the upper half loses the row of the lower half.
+// Step 2: each row of the upper half loses the row of the lower half. The sizes |u| are counted on from row to row, which is cheaper
+// than to look them up.
 pub fn subtract_lower(
     modulus: Modulus,
-    sizes: &[u8; 256],
     p: usize,
     d: SetSize,
     e: SetSize,
@@ -97,16 +116,17 @@ pub fn subtract_lower(
     rows: &mut [u32],
 )
     requires { ⌜ Valid modulus ⌝ }
-    requires { ⌜ ByteSizes (now sizes) ⌝ }
     requires { ⌜ RowsReady (modulus .value) 1 (λ u. backFrom w (e .0) (size u + d .0)) (λ u. backCount (e .0) (size u + d .0)) w p (now rows) ⌝ }
     requires { ⌜ d .0 ≤ 16 ⌝ }
     ensures { λ _. ⌜ RowsStep (λ u. Subtracted (modulus .value) w (e .0) (size u + d .0)) 1 w (2 ^ p * w) (2 ^ p) (now (rows .entry)) (now (rows .exit)) ⌝ }
 {
     let half = power_of_two(p);
     let mid = half * w;
+    let mut low = SetSize(0);
     let mut u = 0;
     while u < half {
-        subtract_row(modulus, sizes, d, e, w, mid, SetCode(u), rows);
+        subtract_row(modulus, SetSize(low.0 + d.0), e, w, mid, SetCode(u), rows);
+        low = SetCode(u).next_size(low);
         u += 1;
     }
 }

@@ -20,7 +20,8 @@ use Rattle.theory.specs.Codes.{by-top, size-top}
 use Rattle.ranked_theory.specs.Convolution.{conv, conv-window}
 use Rattle.ranked_theory.specs.Cover.{cover, both, cover-low, cover-both, cover-upto, no-control, Ranks, ranks-low, ranks-both}
 use Rattle.ranked_theory.specs.Rows.{plus, minus, Added, Subtracted, RowsStep, RowsReady, backFrom, backCount, RowOfResidues, Multiplied}
-use Rattle.ranked_theory.specs.Recursion.{width, Ready, Factor, Worked}
+use Rattle.ranked_theory.specs.Layout.{width}
+use Rattle.ranked_theory.specs.Recursion.{Ready, Factor, Worked}
 use Rattle.ranked_theory.specs.Places.{row-in}
 
 -- the place of a row of the upper half

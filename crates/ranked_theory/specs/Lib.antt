@@ -2,8 +2,9 @@ pub mod Convolution
 pub mod Cover
 pub mod Lowest
 pub mod Rows
-pub mod Recursion
 pub mod Places
+pub mod Layout
+pub mod Recursion
 pub mod Runs
 pub mod RowSteps
 pub mod Levels

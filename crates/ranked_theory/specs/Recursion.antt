@@ -8,9 +8,7 @@ use Rattle.definitions.specs.Sums.{at}
 use Rattle.definitions.specs.Sets.{size}
 use Rattle.definitions.specs.Products.{subsetTable}
 use Rattle.ranked_theory.specs.Cover.{cover, Ranks}
-
-abbrev pub width : ℕ → ℕ
-width n = 2 * n + 2
+use Rattle.ranked_theory.specs.Layout.{width, rowsLength, place, resultPlace}
 
 -- a part of 2 ^ q rows whose codes share d controls above the low q, with residues at the ranks from |h| - d to |h| of each
 -- factor. What it holds elsewhere does not matter.
@@ -35,57 +33,44 @@ pub record Worked (m n q d : ℕ) (xs ys : List ℕ) : Type 0 where
 
 -- ---- tables in rows
 
--- the rows hold the table A as the factor at that side: its entry h at rank |h| of row h
+-- the rows hold the table A as the factor at that side
 abbrev pub Laid : ℕ → ℕ → List ℕ → List ℕ → Type 0
-Laid n side A xs = (h : ℕ) → h < 2 ^ n → at xs (h * width n + side) ≡ at A h
-
--- the left factor
-abbrev pub LaidLeft : ℕ → List ℕ → List ℕ → Type 0
-LaidLeft n A xs = Laid n 0 A xs
+Laid n side A xs = (h : ℕ) → h < 2 ^ n → at xs (place n side h) ≡ at A h
 
 -- room for the rows of a table
 pub record Room (n : ℕ) (A xs : List ℕ) : Type 0 where
   pub few : n ≤ 16
   pub table : length A ≡ 2 ^ n
-  pub long : 2 ^ n * width n ≤ length xs
+  pub long : rowsLength n ≤ length xs
 
--- one factor laid out and the other as it was
+-- one factor laid out; every other number is as it was
 pub record LaidOut (n side : ℕ) (A xs ys : List ℕ) : Type 0 where
   pub laid : Laid n side A ys
-  pub other : (h r : ℕ) → h < 2 ^ n → r < width n → (r ≡ side → ⊥) → at ys (h * width n + r) ≡ at xs (h * width n + r)
+  pub other : (j : ℕ) → ((h : ℕ) → h < 2 ^ n → j ≡ place n side h → ⊥) → at ys j ≡ at xs j
 
--- both factors laid out, whatever the rows held
+-- both factors laid out
 pub record LaidBoth (n : ℕ) (A B ys : List ℕ) : Type 0 where
   pub left : Laid n 0 A ys
   pub right : Laid n 1 B ys
 
--- result[h] is rank |h| of row h
-abbrev pub ReadOff : ℕ → List ℕ → List ℕ → Type 0
-ReadOff n xs r = (h : ℕ) → h < 2 ^ n → at r h ≡ at xs (h * width n + 2 * n)
-
--- a left factor of residues is laid out, and b is a table of residues for the right one
-pub record FactorsReady (m n : ℕ) (b r xs : List ℕ) : Type 0 where
-  pub few : n ≤ 16
-  pub right : length b ≡ 2 ^ n
-  pub right-below : (h : ℕ) → h < 2 ^ n → at b h < m
-  pub result : length r ≡ 2 ^ n
-  pub long : 2 ^ n * width n ≤ length xs
-  pub left-below : (h : ℕ) → h < 2 ^ n → at xs (h * width n + 0) < m
-
 -- two factors of residues are laid out
-pub record BothReady (m n : ℕ) (r xs : List ℕ) : Type 0 where
+pub record BothReady (m n : ℕ) (xs : List ℕ) : Type 0 where
   pub few : n ≤ 16
-  pub result : length r ≡ 2 ^ n
-  pub long : 2 ^ n * width n ≤ length xs
-  pub below : (h side : ℕ) → h < 2 ^ n → side ≤ 1 → at xs (h * width n + side) < m
+  pub long : rowsLength n ≤ length xs
+  pub below : (h side : ℕ) → h < 2 ^ n → side ≤ 1 → at xs (place n side h) < m
 
--- whatever tables they are, r is their product
+-- whatever tables they are, the rows hold their product; behind them nothing has changed
+pub record RowsMultiplied (m n : ℕ) (xs ys : List ℕ) : Type 0 where
+  pub product : (A B : List ℕ) → LaidBoth n A B xs → (h : ℕ) → h < 2 ^ n → at ys (resultPlace n h) ≡ at (subsetTable n m A B) h
+  pub behind : (x : ℕ) → rowsLength n ≤ x → at ys x ≡ at xs x
+
+-- the product in a table of its own
+abbrev pub ReadOff : ℕ → List ℕ → List ℕ → Type 0
+ReadOff n xs r = (h : ℕ) → h < 2 ^ n → at r h ≡ at xs (resultPlace n h)
+
+-- whatever tables the factors are, r is their product
 abbrev pub ProductOfBoth : ℕ → ℕ → List ℕ → List ℕ → Type 0
 ProductOfBoth m n xs r = (A B : List ℕ) → LaidBoth n A B xs → r ≡ subsetTable n m A B
-
--- whatever table the left factor is, r is the product
-abbrev pub ProductOfLaid : ℕ → ℕ → List ℕ → List ℕ → List ℕ → Type 0
-ProductOfLaid m n b xs r = (A : List ℕ) → LaidLeft n A xs → r ≡ subsetTable n m A b
 
 pub record TablesReady (m n : ℕ) (a b r xs : List ℕ) : Type 0 where
   pub few : n ≤ 16
@@ -94,4 +79,4 @@ pub record TablesReady (m n : ℕ) (a b r xs : List ℕ) : Type 0 where
   pub right : length b ≡ 2 ^ n
   pub right-below : (h : ℕ) → h < 2 ^ n → at b h < m
   pub result : length r ≡ 2 ^ n
-  pub long : 2 ^ n * width n ≤ length xs
+  pub long : rowsLength n ≤ length xs

@@ -1,6 +1,6 @@
 -- Rows that a loop changes, each over its row of the lower half.
 --   run-in, run-out, run-ready         a run, by the places of its row
---   add-row, subtract-row              steps (1) and (2) for one row
+--   add-row, subtract-row              steps (1) and (2) for one row; row-ready-as, row-step-as: the size told otherwise
 --   Passing                            the invariant of a loop over the rows
 use mathlib.Core.Path.{_≡_, refl, sym, ap, subst, subst₂, _∙_}
 use mathlib.Core.List.{List}
@@ -9,9 +9,7 @@ use Prim.Native.Nat.{ℕ, _+_, _-_, _*_, _^_, _≤_, _<_, min}
 use native.Mathlib.Nat.{not-suc-le-zero, le-antisymm}
 use native.Mathlib.Omega.{arith}
 use lib.ListN.{length}
-use lib.Pow.{pow-mono}
 use Rattle.definitions.specs.Sums.{at}
-use Rattle.definitions.specs.Sets.{size}
 use Rattle.ranked_theory.specs.Rows.{plus, minus, stored, Run, RunReady, Added, Subtracted, RowStep, RowReady, RowsStep, RowsReady, backFrom, backCount}
 use Rattle.ranked_theory.specs.Places.{row-in, at-next}
 
@@ -67,15 +65,14 @@ add-row m d w mid u a b xs ys zs ready room ea eb run pair =
           ∙ run-not j (⊎-elim (λ l. inl (omega arith)) (λ l. inr (omega arith)) o);
     }
 
--- ---- step (2) for one row, where t is the size of its code and k how many ranks past that are taken
+-- ---- step (2) for one row, where s is the size of its set and k how many ranks past that are taken
 
-pub subtract-row : (m d e w mid u t k : ℕ) (xs : List ℕ) → RowReady m 1 (backFrom w e (size u + d)) (backCount e (size u + d)) w mid u xs → t ≡ size u + d
-    → k ≡ min e t → (a b : ℕ) (ys : List ℕ) → a ≡ u * w + (w - 2 - k) → b ≡ mid + a + 1 → Run (minus m) a b (k + 1) xs ys
-    → RowStep (Subtracted m w e (size u + d)) 1 w mid u xs ys
-subtract-row m d e w mid u t k xs ready et ek a b ys ea eb run =
+pub subtract-row : (m s e w mid u k : ℕ) (xs : List ℕ) → RowReady m 1 (backFrom w e s) (backCount e s) w mid u xs
+    → k ≡ min e s → (a b : ℕ) (ys : List ℕ) → a ≡ u * w + (w - 2 - k) → b ≡ mid + a + 1 → Run (minus m) a b (k + 1) xs ys
+    → RowStep (Subtracted m w e s) 1 w mid u xs ys
+subtract-row m s e w mid u k xs ready ek a b ys ea eb run =
     let run-at = run-in (minus m) 1 w mid u a b (w - 2 - k) (k + 1) xs ys ea (omega arith) run in
     let run-not = run-out (minus m) 1 w mid u a b (w - 2 - k) (k + 1) xs ys ea (omega arith) run in
-    let same : k ≡ min e (size u + d) = ek ∙ ap (min e) et in
     let fits : k + 2 ≤ w = omega (arith, ready .row) in
     record {
       here = λ r lr.
@@ -85,6 +82,14 @@ subtract-row m d e w mid u t k xs ready et ek a b ys ea eb run =
           };
       elsewhere = λ j o. run-not j (⊎-elim (λ l. inl (omega arith)) (λ l. inr (omega arith)) o);
     }
+
+-- the size, told otherwise
+module _ {s t : ℕ} (same : s ≡ t) (e : ℕ) {m w mid u : ℕ} {xs : List ℕ} where
+  pub row-ready-as : RowReady m 1 (backFrom w e s) (backCount e s) w mid u xs → RowReady m 1 (backFrom w e t) (backCount e t) w mid u xs
+  row-ready-as h = subst (λ (k : ℕ). RowReady m 1 (backFrom w e k) (backCount e k) w mid u xs) same h
+
+  pub row-step-as : {ys : List ℕ} → RowStep (Subtracted m w e s) 1 w mid u xs ys → RowStep (Subtracted m w e t) 1 w mid u xs ys
+  row-step-as {ys} h = subst (λ (k : ℕ). RowStep (Subtracted m w e k) 1 w mid u xs ys) same h
 
 -- ---- a loop over the rows
 
@@ -126,7 +131,6 @@ passing-ready {w = w} {p} {half} {mid} {xs} {ys} {u} m lo count ready h l =
     let b = row-in u (2 ^ p) w (omega (arith, h .half-is)) in
     let e = h .mid-is in
     record {
-      code = omega (arith, h .half-is, pow-mono (ready .few));
       row = ready .row u (omega (arith, h .half-is));
       lower = omega arith;
       upper = omega (arith, h .long, ready .long);

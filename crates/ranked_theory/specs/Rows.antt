@@ -80,7 +80,6 @@ pub record RowStep (P : ℕ → ℕ → ℕ → ℕ → Type 0) (shift w mid u :
 
 -- row u and the row mid past it are in the list; row u has residues at count places from lo on, and the other one shift past them
 pub record RowReady (m shift lo count w mid u : ℕ) (xs : List ℕ) : Type 0 where
-  pub code : u < 2 ^ 16
   pub row : lo + shift + count ≤ w
   pub lower : u * w + w ≤ mid
   pub upper : mid + (u * w + w) ≤ length xs

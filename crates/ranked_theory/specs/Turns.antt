@@ -9,7 +9,8 @@ use borrow.Rule.Slice.PartMut.{putMid}
 use Rattle.definitions.specs.Sums.{at}
 use Rattle.definitions.specs.Sets.{size}
 use Rattle.ranked_theory.specs.Rows.{Added, Subtracted, RowsStep, RowsReady, backFrom, backCount, RowOfResidues, Multiplied}
-use Rattle.ranked_theory.specs.Recursion.{width, Ready, Worked}
+use Rattle.ranked_theory.specs.Layout.{width}
+use Rattle.ranked_theory.specs.Recursion.{Ready, Worked}
 use Rattle.ranked_theory.specs.Levels as level
 use Rattle.ranked_theory.specs.Halves.{first-length, both-length, second, joined}
 

@@ -18,7 +18,8 @@ pub fn inverse(n: u32, m: u32, a: &[u32], result: &mut [u32], pad: &mut [u32]) -
         Checked::Accepted(modulus) => match modulus.reciprocal(a[0]) {
             Reciprocal::Of(u) => {
                 let used = checks::pad_length(n);
-                series_rows::inverse_table(n as usize, modulus, u, a, result, &mut pad[..used]);
+                series_rows::inverse_table(n as usize, modulus, u, a, &mut pad[..used]);
+                composition::take_result(n as usize, pad, result);
                 checks::clear(used, pad);
                 0
             }

@@ -17,7 +17,8 @@ pub fn logarithm(n: u32, m: u32, e: &[u32], result: &mut [u32], pad: &mut [u32])
     match checks::check_start(n, m, 1, e, result.len(), pad.len()) {
         Checked::Accepted(modulus) => {
             let used = checks::pad_length(n);
-            series_rows::logarithm_table(n as usize, modulus, e, result, &mut pad[..used]);
+            series_rows::logarithm_table(n as usize, modulus, e, &mut pad[..used]);
+            composition::take_result(n as usize, pad, result);
             checks::clear(used, pad);
             0
         }

@@ -4,8 +4,9 @@ ghost use Prim.Native.Nat.{_+_, _-_, _*_, _<_, _≤_};
 ghost use Rattle.theory.specs.Logarithm.{logarithmOf};
 ghost use Rattle.theory.specs.Inverse.{inverseOf};
 ghost use Rattle.residues.specs.Moduli.{Valid, Residue};
-ghost use Rattle.composition.specs.Ready.{Ready};
+ghost use Rattle.composition.specs.Ready.{Ready, resultIn};
 ghost use Rattle.series_rows.specs.InverseRows.{rowSpace, EntryReady, InverseRow};
+use composition::composition_table;
 use residues::Modulus;
 
 // A row for the most controls that a panel has.
@@ -40,36 +41,24 @@ fn inverse_row(modulus: Modulus, u: u32, start: usize) -> [u32; ROW_SPACE]
     row
 }
 
-// The logarithm of a table with first entry 1: the composition of its other sets with the row 0, 1, -1, 2!, -3!, ..
-pub fn logarithm_table(
-    n: usize,
-    modulus: Modulus,
-    e: &[u32],
-    result: &mut [u32],
-    workspace: &mut [u32],
-)
+// The logarithm of a table with first entry 1: the composition of its other sets with the row 0, 1, -1, 2!, -3!, .. It is left in the
+// workspace.
+pub fn logarithm_table(n: usize, modulus: Modulus, e: &[u32], workspace: &mut [u32])
     requires { ⌜ Valid modulus ⌝ }
-    requires { ⌜ Ready n (modulus .value) (now e) (now result) (now workspace) ⌝ }
-    ensures { λ _. ⌜ now (result .exit) ≡ logarithmOf n (modulus .value) (now (e .entry)) ⌝ }
+    requires { ⌜ Ready n (modulus .value) (now e) (now workspace) ⌝ }
+    ensures { λ _. ⌜ resultIn n (now (workspace .exit)) ≡ logarithmOf n (modulus .value) (now (e .entry)) ⌝ }
 {
     let row = inverse_row(modulus, 1, 1);
-    composition::composition_table(n, modulus, e, &row, result, workspace);
+    composition_table(n, modulus, e, &row, workspace);
 }
 
-// The inverse of a table whose first entry has the reciprocal u.
-pub fn inverse_table(
-    n: usize,
-    modulus: Modulus,
-    u: u32,
-    a: &[u32],
-    result: &mut [u32],
-    workspace: &mut [u32],
-)
+// The inverse of a table whose first entry has the reciprocal u. It is left in the workspace.
+pub fn inverse_table(n: usize, modulus: Modulus, u: u32, a: &[u32], workspace: &mut [u32])
     requires { ⌜ Valid modulus ⌝ }
     requires { ⌜ u < modulus .value ⌝ }
-    requires { ⌜ Ready n (modulus .value) (now a) (now result) (now workspace) ⌝ }
-    ensures { λ _. ⌜ now (result .exit) ≡ inverseOf n (modulus .value) u (now (a .entry)) ⌝ }
+    requires { ⌜ Ready n (modulus .value) (now a) (now workspace) ⌝ }
+    ensures { λ _. ⌜ resultIn n (now (workspace .exit)) ≡ inverseOf n (modulus .value) u (now (a .entry)) ⌝ }
 {
     let row = inverse_row(modulus, u, 0);
-    composition::composition_table(n, modulus, a, &row, result, workspace);
+    composition_table(n, modulus, a, &row, workspace);
 }

@@ -1,2 +1,3 @@
 pub mod Bytes
+pub mod Next
 pub mod Sizes

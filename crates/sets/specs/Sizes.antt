@@ -1,9 +1,7 @@
 -- Sizes of codes: of a byte, and within which codes they are looked up.
 use mathlib.Core.Path.{_≡_, subst, sym}
-use mathlib.Core.List.{List}
 use Prim.Native.Nat.{ℕ, _^_, _<_, _≤_}
 use lib.Count.{ones-le}
-use Rattle.definitions.specs.Sums.{at}
 use Rattle.definitions.specs.Sets.{size}
 
 -- the codes of three bytes
@@ -18,7 +16,3 @@ pub record SizeOfByte (byte r : ℕ) : Type 0 where
 -- a set of the first n controls has at most n
 pub size-le : (n : ℕ) {code r : ℕ} → code < 2 ^ n → r ≡ size code → r ≤ n
 size-le n {code} h e = subst (λ (k : ℕ). k ≤ n) (sym e) (ones-le n code h)
-
--- t is the table of 256 sizes
-abbrev pub ByteSizes : List ℕ → Type 0
-ByteSizes t = (byte : ℕ) → byte < 256 → at t byte ≡ size byte

@@ -1,9 +1,9 @@
 // Sets of controls by their codes, and how many controls a code has. A code and a size are kinds of their own, so that one
 // is never taken for the other.
 ghost use mathlib.Core.Path.{_≡_};
-ghost use Prim.Native.Nat.{_<_};
+ghost use Prim.Native.Nat.{_+_, _<_};
 ghost use Rattle.definitions.specs.Sets.{size};
-ghost use Rattle.sets.specs.Sizes.{codeLimit, SizeOfByte, ByteSizes};
+ghost use Rattle.sets.specs.Sizes.{codeLimit, SizeOfByte};
 
 // 01's code of a set, the source's h.
 pub struct SetCode(pub usize);
@@ -271,13 +271,6 @@ const SIZES: [u8; 256] = [
     8,
 ];
 
-// The table itself, for many lookups: a lookup in the constant makes a copy of it, and this is the only one.
-pub fn byte_sizes() -> [u8; 256]
-    ensures { λ r. ⌜ ByteSizes r ⌝ }
-{
-    SIZES
-}
-
 fn wide(x: u8) -> usize
     ensures { λ r. ⌜ r ≡ x ⌝ }
 {
@@ -303,16 +296,14 @@ impl SetCode {
         )
     }
 
-    // The same by a copy of the table.
-    pub fn size_by(self, sizes: &[u8; 256]) -> SetSize
+    // The size of the next code, from its own size: where one is added, the ones at the end become zeros and the zero above them a
+    // one. A loop over all codes asks this, and looks no size up.
+    pub fn next_size(self, own: SetSize) -> SetSize
         requires { ⌜ self .0 < codeLimit ⌝ }
-        requires { ⌜ ByteSizes (now sizes) ⌝ }
-        ensures { λ r. ⌜ r .0 ≡ size (self .0) ⌝ }
+        requires { ⌜ own .0 ≡ size (self .0) ⌝ }
+        ensures { λ r. ⌜ r .0 ≡ size (self .0 + 1) ⌝ }
     {
-        let c = self.0;
-        let high = c / 65536;
-        let middle = c / 256 % 256;
-        let low = c % 256;
-        SetSize(wide(sizes[high]) + wide(sizes[middle]) + wide(sizes[low]))
+        let next = self.0 + 1;
+        SetSize(own.0 + 1 - (usize::trailing_zeros(next) as usize))
     }
 }

@@ -1,8 +1,8 @@
 -- The steps of writing a table file: its length, its entries, the whole.
-use mathlib.Core.Path.{_≡_, refl, sym, _∙_, ap, subst}
+use mathlib.Core.Path.{_≡_, sym, _∙_, ap, subst}
 use mathlib.Core.Bool.{true, false}
 use mathlib.Core.List.{List, [], _∷_, _++_, flatMap}
-use Prim.Native.Nat.{ℕ, zero, suc, _+_, _*_, _^_, _<_, _≤_}
+use Prim.Native.Nat.{ℕ, _+_, _*_, _^_, _<_, _≤_}
 use native.Mathlib.Numerals.{add-one}
 use native.Mathlib.Omega.{arith}
 use lib.Dec.{ltb}
@@ -13,8 +13,8 @@ use borrow.Author.Tests.{lt-ltb, le-ltb}
 use Rattle.definitions.specs.Groups.{groups}
 use Rattle.definitions.specs.Limits.{mostControls}
 use Rattle.definitions.specs.Files.{fileOf, writerNumber}
-use Rattle.definitions.specs.Refusals.{orElse, firstWord, panelWord, modulusWord}
-use Rattle.checks.specs.Words.{orElse-go, orElse-stop}
+use Rattle.definitions.specs.Refusals.{orElse, panelWord, modulusWord}
+use Rattle.checks.specs.Words.{orElse-go, orElse-stop, one-more-word}
 use Rattle.checks.specs.Accepted.{tableWords, tableNumber, table-accepted}
 use Rattle.checks.specs.Answers.{IsChecked, accepted, refused, not-accepted, kept, no-value}
 use Rattle.checks.specs.declared.Checked.{Checked}
@@ -126,20 +126,10 @@ module _ (n m : ℕ) (a old : List ℕ) where
 
 -- ---- the call
 
-last-word : (w : ℕ) → firstWord (w ∷ []) ≡ w
-last-word zero = refl
-last-word (suc w) = refl
-
--- one more test behind some tests
-one-more : (ks : List ℕ) (w : ℕ) → firstWord (ks ++ (w ∷ [])) ≡ orElse (firstWord ks) w
-one-more [] w = last-word w
-one-more (zero ∷ ks) w = one-more ks w
-one-more (suc k ∷ ks) w = refl
-
 module _ (n m : ℕ) (a old : List ℕ) where
   pub by-tests : writerNumber n m a (length old) ≡ orElse (tableNumber n m a) (shortWord n m a (length old))
   unfolding writerNumber
-  by-tests = one-more (panelWord n ∷ modulusWord m ∷ tableWords n m a) (shortWord n m a (length old))
+  by-tests = one-more-word (panelWord n ∷ modulusWord m ∷ tableWords n m a) (shortWord n m a (length old))
 
   module _ {r : Checked} (tests : IsChecked m (tableNumber n m a) r) where
     pub few-entries : {modulus : _} → r ≡ checked.Accepted modulus → length a ≤ 2 ^ mostControls

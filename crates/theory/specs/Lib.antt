@@ -1,6 +1,7 @@
 pub mod Tests
 pub mod Sums
 pub mod Lists
+pub mod Parts
 pub mod Codes
 pub mod Remainders
 pub mod Entries
@@ -20,5 +21,6 @@ pub mod Degree
 pub mod Transform
 pub mod Pairs
 pub mod Passes
+pub mod PassLoops
 pub mod Convolution
 pub mod Partitions

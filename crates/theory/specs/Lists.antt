@@ -1,17 +1,18 @@
 -- Lists by a rule for their entries, and tables of remainders.
---   tabulate   length, at, ext, append, self, of (a list that agrees with a rule at each place)
+--   tabulate   length, at, ext, append, self, of (a list that agrees with a rule at each place), set (one entry, by another rule)
 --   filled     a list whose first entries are set by a rule: what a loop that sets one entry a turn has so far
---              (filled-none before it, filled-more and turn for one turn, filled-block for a block, part, filled-all and whole at its end)
+--              (filled-none before it, turn for one turn, filled-block for a block, part, filled-all and whole at its end)
 --   residues   length, at, ext, self, of, filled, halves
 use mathlib.Core.Path.{_≡_, refl, sym, _∙_, ap, ap₂}
 use mathlib.Core.List.{List, [], _∷_, _++_, append-assoc, append-nil}
-use mathlib.Core.Logic.{_⊎_, inl, inr}
+use mathlib.Core.Logic.{_≢_, _⊎_, inl, inr}
 use Prim.Native.Nat.{ℕ, zero, suc, _+_, _%_, _^_, _<_, _≤_}
 use native.Mathlib.Numerals.{add-one}
 use native.Mathlib.Nat.{add-zero, add-suc, le-refl, not-suc-le-zero, le-of-suc-le-suc, eq-or-lt-of-le, mod-eq-of-lt}
+use native.Mathlib.Decide.{ℕ-discrete}
 use native.Mathlib.Omega.{arith}
-use lib.ListN.{length, getD, take, drop, set, length-append, length-drop, drop-of-length-le, List·getD-append}
-use lib.Seq.{drop-cons, set-at, take-at, drop-at, drop-drop, getD-at, getD-drop, getD-append-add, ext-getD}
+use lib.ListN.{length, getD, take, drop, set, length-set, length-append, length-drop, drop-of-length-le, List·getD-append}
+use lib.Seq.{getD-set-same, getD-set-other, drop-cons, set-at, take-at, drop-at, drop-drop, getD-at, getD-drop, getD-append-add, ext-getD}
 use Rattle.definitions.specs.Sums.{tabulate, at}
 use Rattle.definitions.specs.Products.{residues}
 
@@ -50,6 +51,14 @@ tabulate-append a zero f = rw (add-zero a) (sym (append-nil (tabulate a f)))
 tabulate-append a (suc b) f =
     rw (add-suc a b, tabulate-append a b f) (append-assoc (tabulate a f) (tabulate b (λ i. f (a + i))) (f (a + b) ∷ []))
 
+-- one entry is set, and at the others the two rules agree
+pub set-tabulate : (n : ℕ) (f g : ℕ → ℕ) (k v : ℕ) → k < n → v ≡ g k → ((j : ℕ) → j < n → j ≢ k → f j ≡ g j) → set (tabulate n f) k v ≡ tabulate n g
+set-tabulate n f g k v h e d = tabulate-of n (set (tabulate n f) k v) g (length-set (tabulate n f) k v ∙ length-tabulate n f)
+    (λ j l. elim (ℕ-discrete j k) [
+      | yes s ↦ rw s (getD-set-same (tabulate n f) k v 0 (omega (arith, length-tabulate n f)) ∙ e)
+      | no s ↦ getD-set-other (tabulate n f) k j v 0 s ∙ at-tabulate n f j l ∙ d j l s
+    ])
+
 -- ---- a list that a loop fills
 
 -- r with its first n entries by the rule f
@@ -60,7 +69,7 @@ pub filled-none : (f : ℕ → ℕ) (r : List ℕ) → r ≡ filled f 0 r
 unfolding filled tabulate
 filled-none f r = refl
 
-pub filled-more : (f : ℕ → ℕ) (i : ℕ) (r : List ℕ) → i < length r → set (filled f i r) i (f i) ≡ filled f (i + 1) r
+filled-more : (f : ℕ → ℕ) (i : ℕ) (r : List ℕ) → i < length r → set (filled f i r) i (f i) ≡ filled f (i + 1) r
 unfolding filled tabulate
 filled-more f i r h =
     rw (drop-cons r i 0 h, set-at (tabulate i f) (getD r i 0) (drop (suc i) r) (f i) i (length-tabulate i f), add-one i)

@@ -3,22 +3,20 @@
 --   pass, passes             on functions of codes
 --   pass-lo, pass-hi         at a set without the control, and with it
 --   passes-none, passes-more a loop over the controls
---   pass-block               a loop over the blocks of 2 ^ suc i entries (with `filled` and `filled-block` of Lists)
---   crossing, crossed        a loop over one block, and what it leaves
+--   crossed, pass-block      what is left of a block of 2 ^ suc i entries (PassLoops has the loops over it and over the blocks)
 --   passes-lin               modulo m the passes are a linear transform
 use mathlib.Core.Path.{_≡_, refl, sym, ap, ap₂, _∙_, fun-ext}
 use mathlib.Core.Bool.{cond}
-use mathlib.Core.List.{List, [], _∷_, _++_}
+use mathlib.Core.List.{List, _++_}
 use Prim.Native.Nat.{ℕ, zero, suc, _+_, _-_, _*_, _/_, _%_, _^_, _<_, _≤_}
 use native.Mathlib.Nat.{zero-add, zero-mul, mod-lt, mul-le-mul-right, lt-of-mul-lt-mul-right, div-add-mod'}
 use native.Mathlib.Omega.{arith}
 use lib.Arith.{digits-div}
 use lib.Dec.{eqb}
-use lib.ListN.{length, take, drop, set, take-append-drop, length-drop, List·getD-append}
+use lib.ListN.{length}
 use lib.Pow.{pow-pos, pow-add}
-use lib.Seq.{length-take-le, getD-append-add, getD-take, getD-drop, set-append-left}
 use Rattle.definitions.specs.Sums.{tabulate, at}
-use Rattle.theory.specs.Lists.{tabulate-ext, tabulate-append, tabulate-self, at-tabulate, filled, filled-none, filled-more, filled-all, length-filled, at-filled}
+use Rattle.theory.specs.Lists.{tabulate-ext, tabulate-append, tabulate-self, at-tabulate}
 use Rattle.theory.specs.Codes.{by-top}
 use Rattle.theory.specs.Semiring.{both}
 use Rattle.theory.specs.Halves.{Table, tab, tab-ext}
@@ -130,67 +128,6 @@ module _ (p q : ℕ → ℕ → ℕ) where
       (tabulate-ext (2 ^ i) _ _ (λ t h. ap₂ p (e t (omega arith)) (e (2 ^ i + t) (omega arith)) ∙ sym (pass-lo p q i a t h f)))
       (tabulate-ext (2 ^ i) _ _ (λ t h. ap₂ q (e t (omega arith)) (e (2 ^ i + t) (omega arith)) ∙ sym (pass-hi p q i a t h f)))
       ∙ sym (tabulate-append (2 ^ i) (2 ^ i) _) ∙ ap (λ (k : ℕ). tabulate k (λ t. pass p q i f (a * 2 ^ suc i + t))) (omega arith)
-
--- ---- on one block: a loop over its lower half
-
-set-append-right : (xs ys : List ℕ) (i v : ℕ) → set (xs ++ ys) (length xs + i) v ≡ xs ++ set ys i v
-set-append-right [] ys i v = ap (λ (k : ℕ). set ys k v) (zero-add i)
-set-append-right (x ∷ xs) ys i v =
-    let e : suc (length xs) + i ≡ suc (length xs + i) = omega arith in
-    ap (λ (k : ℕ). set (x ∷ xs ++ ys) k v) e ∙ ap (λ (l : List ℕ). x ∷ l) (set-append-right xs ys i v)
-
-module _ (p q : ℕ → ℕ → ℕ) (half : ℕ) (xs : List ℕ) where
-  -- after t turns, t entries of each half are done
-  unfoldable pub crossing : ℕ → List ℕ
-  crossing t = filled (λ t. p (at xs t) (at xs (half + t))) t (take half xs) ++ filled (λ t. q (at xs t) (at xs (half + t))) t (drop half xs)
-
-  pub crossing-none : xs ≡ crossing 0
-  unfolding crossing
-  crossing-none = sym (take-append-drop half xs) ∙ ap₂ _++_ (filled-none _ (take half xs)) (filled-none _ (drop half xs))
-
-  module _ (l : length xs ≡ half + half) where
-    lower-length : length (take half xs) ≡ half
-    lower-length = length-take-le half xs (omega arith)
-
-    upper-length : length (drop half xs) ≡ half
-    upper-length = length-drop half xs ∙ omega arith
-
-    pub crossing-all : crossing half ≡ crossed p q half xs
-    unfolding crossing crossed
-    crossing-all = ap₂ _++_ (filled-all _ half (take half xs) (omega (arith, lower-length))) (filled-all _ half (drop half xs) (omega (arith, upper-length)))
-
-    module _ (t : ℕ) (h : t < half) where
-      front : length (filled (λ t. p (at xs t) (at xs (half + t))) t (take half xs)) ≡ half
-      front = length-filled _ t (take half xs) (omega (arith, lower-length)) ∙ lower-length
-
-      -- what the turn reads
-      pub crossing-lower : at (crossing t) t ≡ at xs t
-      unfolding crossing
-      crossing-lower =
-          let z : t + 0 ≡ t = omega arith in
-          List·getD-append (filled _ t (take half xs)) _ 0 t (omega (arith, front))
-          ∙ (rw z at (at-filled (λ t. p (at xs t) (at xs (half + t))) t (take half xs) 0)) ∙ getD-take half xs t 0 h
-
-      pub crossing-upper : at (crossing t) (half + t) ≡ at xs (half + t)
-      unfolding crossing
-      crossing-upper =
-          let z : t + 0 ≡ t = omega arith in
-          ap (λ (k : ℕ). at (crossing t) (k + t)) (sym front)
-          ∙ getD-append-add (filled _ t (take half xs)) (filled _ t (drop half xs)) t 0
-          ∙ (rw z at (at-filled (λ t. q (at xs t) (at xs (half + t))) t (drop half xs) 0)) ∙ getD-drop half xs t 0
-
-      pub crossing-more : set (set (crossing t) t (p (at xs t) (at xs (half + t)))) (half + t) (q (at xs t) (at xs (half + t))) ≡ crossing (t + 1)
-      unfolding crossing
-      crossing-more =
-          let P : ℕ → ℕ = λ t. p (at xs t) (at xs (half + t)) in
-          let Q : ℕ → ℕ = λ t. q (at xs t) (at xs (half + t)) in
-          let lo : set (filled P t (take half xs)) t (P t) ≡ filled P (t + 1) (take half xs) = filled-more P t (take half xs) (omega (arith, lower-length)) in
-          let hi : set (filled Q t (drop half xs)) t (Q t) ≡ filled Q (t + 1) (drop half xs) = filled-more Q t (drop half xs) (omega (arith, upper-length)) in
-          let k : length (filled P (t + 1) (take half xs)) ≡ half = length-filled P (t + 1) (take half xs) (omega (arith, lower-length)) ∙ lower-length in
-          ap (λ (u : List ℕ). set u (half + t) (Q t)) (set-append-left (filled P t (take half xs)) _ t (P t) (omega (arith, front)) ∙ ap (λ (u : List ℕ). u ++ filled Q t (drop half xs)) lo)
-          ∙ ap (λ (j : ℕ). set (filled P (t + 1) (take half xs) ++ filled Q t (drop half xs)) (j + t) (Q t)) (sym k)
-          ∙ set-append-right (filled P (t + 1) (take half xs)) (filled Q t (drop half xs)) t (Q t)
-          ∙ ap (λ (u : List ℕ). filled P (t + 1) (take half xs) ++ u) hi
 
 -- a pass that leaves the lower half as it is
 abbrev pub lower : ℕ → ℕ → ℕ

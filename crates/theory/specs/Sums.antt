@@ -3,13 +3,13 @@
 --   listSum-    append, map, flat, keep, tabulate, subsets; scale, null
 --   count-      last, ext, halves
 --   some-found, some-which, some-none, none-some    the test, place by place
---   le-largest, largest-le                          the largest is the least bound; largest-last
+--   le-largest, largest-le                          the largest is the least bound; largest-ext, largest-split
 use mathlib.Core.Path.{_≡_, refl, sym, ap, ap₂, _∙_}
 use mathlib.Core.Bool.{Bool, true, false, cond}
 use mathlib.Core.List.{List, [], _∷_, _++_, map, flatMap}
 use mathlib.Core.Logic.{_≢_}
 use Prim.Native.Nat.{ℕ, zero, suc, _+_, _*_, _%_, _^_, _<_, _≤_, max}
-use native.Mathlib.Nat.{add-zero, add-suc, mul-zero, mul-add, add-assoc, zero-add, add-mod, not-suc-le-zero}
+use native.Mathlib.Nat.{max-zero, add-zero, add-suc, mul-zero, mul-add, add-assoc, zero-add, add-mod, not-suc-le-zero}
 use native.Mathlib.Omega.{arith}
 use native.Mathlib.Decide.{ℕ-discrete}
 use Rattle.definitions.specs.Sums.{sum, listSum, count, some, largest, tabulate, keep}
@@ -179,9 +179,15 @@ some-which (suc n) test e = which (test n) refl e (some-which n test) where
 
 -- ---- largest
 
-pub largest-last : (n : ℕ) (f : ℕ → ℕ) → largest (suc n) f ≡ max (largest n f) (f n)
+pub largest-ext : (n : ℕ) (f g : ℕ → ℕ) → ((i : ℕ) → i < n → f i ≡ g i) → largest n f ≡ largest n g
 unfolding largest
-largest-last n f = refl
+largest-ext zero f g h = refl
+largest-ext (suc n) f g h = ap₂ max (largest-ext n f g (λ i k. h i (omega arith))) (h n (omega arith))
+
+pub largest-split : (m n : ℕ) (f : ℕ → ℕ) → largest (m + n) f ≡ max (largest m f) (largest n (λ i. f (m + i)))
+unfolding largest
+largest-split m zero f = rw (add-zero, max-zero)
+largest-split m (suc n) f = rw add-suc (omega (arith, largest-split m n f))
 
 pub le-largest : (n : ℕ) (f : ℕ → ℕ) (i : ℕ) → i < n → f i ≤ largest n f
 unfolding largest

@@ -1,5 +1,3 @@
-mod Blocks
-mod Table
 mod Controls
 mod Fours
 mod Halving

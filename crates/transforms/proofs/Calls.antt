@@ -2,11 +2,10 @@
 use mathlib.Core.Path.{_≡_, ap, _∙_}
 use mathlib.Core.Bool.{false}
 use mathlib.Core.List.{List}
-use Prim.Native.Nat.{ℕ, _*_, _%_, _^_, _≤_}
+use Prim.Native.Nat.{ℕ, _*_, _%_}
 use native.Mathlib.Omega.{arith}
 use lib.Dec.{eqb}
 use borrow.Author.Tests.{eqb-false}
-use Rattle.definitions.specs.Limits.{padLength}
 use Rattle.definitions.specs.Sums.{at}
 use Rattle.definitions.specs.Products.{residues, unionTable, xorTable}
 use Rattle.definitions.specs.Refusals.{productNumber, xorNumber, halvingWord}
@@ -19,11 +18,6 @@ use Rattle.pointwise.specs.Tables.{Ready}
 use Rattle.transform_passes.specs.Steps.{Transformed, products, Halves}
 use Rattle.transform_passes.specs.declared.Transform.the-variants.{Zeta, Moebius, Walsh}
 use Rattle.transforms.specs.Inputs.{Inputs}
-
--- a table fits into a workspace
-pub table-fits : (n : ℕ) → 2 ^ n ≤ padLength n
-unfolding padLength
-table-fits n = omega arith
 
 module _ {n m r p : ℕ} {a b : List ℕ} {modulus : Modulus} (s : Stands modulus m) (h : Product n m a b r p) where
   ready : {l : List ℕ} → IsTable n m l → Ready n modulus l

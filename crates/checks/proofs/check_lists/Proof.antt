@@ -3,7 +3,7 @@ use denote.Ref.{now}
 use borrow.Author.Needs.{needs}
 use Rattle.definitions.specs.Refusals.{firstWord}
 use Rattle.checks.specs.Accepted.{pairWords}
-use Rattle.checks.proofs.Making.{these-words, _then_, no-more}
+use Rattle.checks.specs.Making.{these-words, _then_, no-more}
 use Rattle.checks.proofs.check_lists.Statement.{statement}
 use Rattle.checks.proofs.check_lists.Tie as tie
 

@@ -6,7 +6,7 @@ use borrow.Author.Needs.{needs}
 use Rattle.definitions.specs.Refusals.{firstWord, modulusWord, sumNumber}
 use Rattle.checks.specs.Accepted.{pairWords}
 use Rattle.checks.specs.Answers.{same-number}
-use Rattle.checks.proofs.Making.{panel-refused, within, past-panel}
+use Rattle.checks.specs.Making.{panel-refused, panel-within, past-panel}
 use Rattle.checks.proofs.check_pair.Statement.{statement}
 use Rattle.checks.proofs.check_pair.Tie as tie
 
@@ -18,7 +18,7 @@ unfolding sumNumber
 returns c = panel-refused (c .before .before .before .before .args .n) (c .before .panel-word .ensures) _ (c .if1 .taken)
 
 power-requires : tie.Need-power-requires
-power-requires c κs = within (c .before .before .before .before .args .n) (c .before .panel-word .ensures) (c .if1 .left)
+power-requires c κs = panel-within (c .before .before .before .before .args .n) (c .before .panel-word .ensures) (c .if1 .left)
 
 check-lists-requires : tie.Need-check-lists-requires
 check-lists-requires c κs = search needs

@@ -1,6 +1,6 @@
 use borrow.Author.Needs.{needs}
 use Rattle.definitions.specs.Refusals.{binomialNumber}
-use Rattle.checks.proofs.Making.{panel-refused, past-panel}
+use Rattle.checks.specs.Making.{panel-refused, past-panel}
 use Rattle.checks.proofs.check_rows.Statement.{statement}
 use Rattle.checks.proofs.check_rows.Tie as tie
 

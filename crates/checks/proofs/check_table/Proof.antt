@@ -4,7 +4,7 @@ use lib.ListN.{length}
 use borrow.Author.Needs.{needs}
 use Rattle.definitions.specs.Refusals.{firstWord}
 use Rattle.checks.specs.Accepted.{tableWords}
-use Rattle.checks.proofs.Making.{panel-refused, within, past-panel, these-words, _then_, no-more, table-length}
+use Rattle.checks.specs.Making.{panel-refused, panel-within, past-panel, these-words, _then_, no-more, table-length}
 use Rattle.checks.proofs.check_table.Statement.{statement}
 use Rattle.checks.proofs.check_table.Tie as tie
 
@@ -15,7 +15,7 @@ returns : tie.Need-returns
 returns c = panel-refused (c .before .before .before .args .n) (c .before .panel-word .ensures) _ (c .if1 .taken)
 
 power-requires : tie.Need-power-requires
-power-requires c κs = within (c .before .before .before .args .n) (c .before .panel-word .ensures) (c .if1 .left)
+power-requires c κs = panel-within (c .before .before .before .args .n) (c .before .panel-word .ensures) (c .if1 .left)
 
 length-word-requires : tie.Need-length-word-requires
 length-word-requires c κs = search needs

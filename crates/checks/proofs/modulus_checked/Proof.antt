@@ -1,7 +1,7 @@
 use mathlib.Core.Path.{sym, _∙_}
 use borrow.Author.Needs.{needs}
 use Rattle.residues.specs.Moduli.{made, refused}
-use Rattle.checks.proofs.Making.{modulus-stands, modulus-refused}
+use Rattle.checks.specs.Making.{modulus-stands, modulus-refused}
 use Rattle.checks.proofs.modulus_checked.Statement.{statement}
 use Rattle.checks.proofs.modulus_checked.Tie as tie
 

@@ -1,34 +1,49 @@
 use Prim.Native.Nat.{_-_}
-use denote.Ref.{now}
 use borrow.Author.Needs.{needs}
 use Rattle.composition.proofs.Levels.{Composing, row-fits, composing-first, level-ready, composing-more, composed}
 use Rattle.composition.proofs.composition_table.Statement.{statement}
 use Rattle.composition.proofs.composition_table.Tie as tie
 
 abbrev Inv-loop : tie.InvT-loop
-Inv-loop n modulus a f result₀ workspace₀ k₀ result workspace k = Composing n (modulus .value) a f workspace₀ k result workspace
+Inv-loop n modulus a f workspace₀ start k₀ workspace k = Composing n (modulus .value) start a f workspace₀ k workspace
 
 abbrev μ-loop : tie.MeasureT-loop
-μ-loop n modulus a f result₀ workspace₀ k₀ result workspace k = n - k
+μ-loop n modulus a f workspace₀ start k₀ workspace k = n - k
 
-add-copy-row : tie.Need-add-copy-row Inv-loop μ-loop
-add-copy-row c = search needs
+rows-length-requires : tie.Need-rows-length-requires Inv-loop μ-loop
+rows-length-requires c κs = search needs
 
-copy-row-requires : tie.Need-copy-row-requires Inv-loop μ-loop
-copy-row-requires c κs =
+add-copy-entries : tie.Need-add-copy-entries Inv-loop μ-loop
+add-copy-entries c = search needs
+
+mul-copy-entries : tie.Need-mul-copy-entries Inv-loop μ-loop
+mul-copy-entries c = search needs
+
+sub-copy-entries : tie.Need-sub-copy-entries Inv-loop μ-loop
+sub-copy-entries c = search needs
+
+part-copy-entries-start : tie.Need-part-copy-entries-start Inv-loop μ-loop
+part-copy-entries-start c = search needs
+
+part-copy-entries-end : tie.Need-part-copy-entries-end Inv-loop μ-loop
+part-copy-entries-end c = search needs
+
+copy-entries-requires : tie.Need-copy-entries-requires Inv-loop μ-loop
+copy-entries-requires c κs =
     let s = c .before .before .before .before .before in
-    row-fits (s .args .n) (s .args .modulus .value) (now (s .args .a)) (now (s .args .f)) (now (s .args .result)) (now (s .args .workspace)) (s .pre .1 .0) (s .pre .1 .1)
+    row-fits (c .before .rows-length .ensures) (s .pre .1 .0) (s .pre .1 .1)
 
 loop-holds : tie.Need-loop-holds Inv-loop μ-loop
 loop-holds c =
     let s = c .before .before .before .before .before .before .before .before in
-    let copied = c .before .before .copy-row in
-    composing-first (s .args .n) (s .args .modulus .value) (now (s .args .a)) (now (s .args .f)) (now (s .args .result)) (now (s .args .workspace)) (s .pre .1 .0) (s .pre .1 .1) (copied .last .1 .1 .0) (copied .ensures) (copied .kept .1 .1 .0)
+    let copied = c .before .before .copy-entries in
+    composing-first (c .before .before .before .before .rows-length .ensures) (s .pre .1 .0) (s .pre .1 .1) _ (copied .ensures) (copied .kept .1 .1 .0)
 
 next-level-requires : tie.Need-next-level-requires Inv-loop μ-loop
 next-level-requires c κs =
-    let s = c .before .before .before .before .before .before .before .before .before .before .before .before in
-    (s .pre .0, level-ready (s .args .n) (s .args .modulus .value) (now (s .args .a)) (now (s .args .f)) (now (s .args .result)) (now (s .args .workspace)) (s .pre .1 .0) (s .pre .1 .1) (c .before .before .before .loop .k) (c .before .before .before .loop .result) (c .before .before .before .loop .workspace) (c .before .before .before .loop .inv) (c .before .before .loop-test .taken))
+    let start = c .before .before .before .before .before .before .before in
+    let s = start .before .before .before .before in
+    (s .pre .0, level-ready (start .rows-length .ensures) (s .pre .1 .0) (s .pre .1 .1) (c .before .before .loop .inv) (c .before .loop-test .taken))
 
 add-k : tie.Need-add-k Inv-loop μ-loop
 add-k c = search needs
@@ -38,20 +53,20 @@ loop-less c = search needs
 
 loop-again : tie.Need-loop-again Inv-loop μ-loop
 loop-again c =
-    let s = c .before .before .before .before .before .before .before .before .before .before .before .before .before .before .before .before .before in
-    let made = c .before .before .before .before .next-level in
-    composing-more (s .args .n) (s .args .modulus .value) (now (s .args .a)) (now (s .args .f)) (now (s .args .result)) (now (s .args .workspace)) (s .pre .1 .0) (s .pre .1 .1) (c .before .before .before .before .before .before .before .before .loop .k) (c .before .before .before .before .before .before .before .before .loop .result) (c .before .before .before .before .before .before .before .before .loop .workspace) (c .before .before .before .before .before .before .before .before .loop .inv) (made .last .1 .1 .1 .1 .0) (made .last .1 .1 .1 .1 .1 .0) (c .before .before .before .before .before .before .before .loop-test .taken) (made .ensures) (made .kept .1 .1 .1 .1 .0) (made .kept .1 .1 .1 .1 .1 .0)
+    let start = c .before .before .before .before .before .before .before .before .before .before in
+    let s = start .before .before .before .before in
+    let made = c .before .before .next-level in
+    let turn = c .before .before .before .before in
+    composing-more (start .rows-length .ensures) (s .pre .1 .0) (s .pre .1 .1) (turn .before .loop .inv) _ (turn .loop-test .taken)
+    (made .ensures) (made .kept .1 .1 .1 .1 .1 .0)
 
 same-length : tie.Need-same-length Inv-loop μ-loop
 same-length c = search needs
 
-same-length-2 : tie.Need-same-length-2 Inv-loop μ-loop
-same-length-2 c = search needs
-
 returns : tie.Need-returns Inv-loop μ-loop
 returns c =
     let s = c .before .before .before .before .before .before .before .before .before .before in
-    composed (s .args .n) (s .args .modulus .value) (now (s .args .a)) (now (s .args .f)) (now (s .args .result)) (now (s .args .workspace)) (s .pre .1 .0) (s .pre .1 .1) (c .before .loop .k) (c .before .loop .result) (c .before .loop .workspace) (c .before .loop .inv) (c .loop-test .left)
+    composed (c .before .before .before .before .before .before .rows-length .ensures) (s .pre .1 .0) (s .pre .1 .1) (c .before .loop .inv) (c .loop-test .left)
 
 pub composition-table-spec : {M : Type 1} → statement M
 composition-table-spec =
@@ -59,13 +74,17 @@ composition-table-spec =
     (tie.spec
     Inv-loop
     μ-loop
-    add-copy-row
-    copy-row-requires
+    rows-length-requires
+    add-copy-entries
+    mul-copy-entries
+    sub-copy-entries
+    part-copy-entries-start
+    part-copy-entries-end
+    copy-entries-requires
     loop-holds
     next-level-requires
     add-k
     loop-less
     loop-again
     same-length
-    same-length-2
     returns)

@@ -11,10 +11,10 @@ use Rattle.composition.proofs.copy_table.Statement.{statement}
 use Rattle.composition.proofs.copy_table.Tie as tie
 
 abbrev Inv-loop : tie.InvT-loop
-Inv-loop size source target result₀ i₀ result i = (i ≤ size) × (length result ≡ length result₀) × Copied i source target result₀ result
+Inv-loop size source target workspace₀ i₀ workspace i = (i ≤ size) × (length workspace ≡ length workspace₀) × Copied i source target workspace₀ workspace
 
 abbrev μ-loop : tie.MeasureT-loop
-μ-loop size source target result₀ i₀ result i = size - i
+μ-loop size source target workspace₀ i₀ workspace i = size - i
 
 loop-holds : tie.Need-loop-holds Inv-loop μ-loop
 loop-holds c = (search needs, refl, copied-none _ _ _)
@@ -25,17 +25,17 @@ add-from c = search needs
 add-to : tie.Need-add-to Inv-loop μ-loop
 add-to c = search needs
 
-mul-result : tie.Need-mul-result Inv-loop μ-loop
-mul-result c = search needs
+mul-workspace : tie.Need-mul-workspace Inv-loop μ-loop
+mul-workspace c = search needs
 
-slice-read-result : tie.Need-slice-read-result Inv-loop μ-loop
-slice-read-result c = search needs
+slice-read-workspace : tie.Need-slice-read-workspace Inv-loop μ-loop
+slice-read-workspace c = search needs
 
-mul-result-2 : tie.Need-mul-result-2 Inv-loop μ-loop
-mul-result-2 c = search needs
+mul-workspace-2 : tie.Need-mul-workspace-2 Inv-loop μ-loop
+mul-workspace-2 c = search needs
 
-slice-write-result : tie.Need-slice-write-result Inv-loop μ-loop
-slice-write-result c = search needs
+slice-write-workspace : tie.Need-slice-write-workspace Inv-loop μ-loop
+slice-write-workspace c = search needs
 
 add-i : tie.Need-add-i Inv-loop μ-loop
 add-i c = search needs
@@ -47,7 +47,7 @@ loop-again : tie.Need-loop-again Inv-loop μ-loop
 loop-again c =
     let s = c .before .before .before in
     let inv = c .before .before .loop .inv in
-    (search needs, search needs, copied-more (s .args .size) (s .args .source) (s .args .target) (c .before .before .loop .i) (now (s .args .result)) (c .before .before .loop .result) (s .pre) (c .before .loop-test .taken) (inv .1) (inv .2) _ refl)
+    (search needs, search needs, copied-more (s .pre) (c .before .loop-test .taken) (inv .1) (inv .2) _ refl)
 
 same-length : tie.Need-same-length Inv-loop μ-loop
 same-length c = search needs
@@ -56,7 +56,7 @@ returns : tie.Need-returns Inv-loop μ-loop
 returns c =
     let s = c .before .before in
     let end : c .before .loop .i ≡ s .args .size = omega arith in
-    subst (λ (n : ℕ). Copied n (s .args .source) (s .args .target) (now (s .args .result)) (c .before .loop .result)) end (c .before .loop .inv .2)
+    subst (λ (n : ℕ). Copied n (s .args .source) (s .args .target) (now (s .args .workspace)) (c .before .loop .workspace)) end (c .before .loop .inv .2)
 
 pub copy-table-spec : {M : Type 1} → statement M
 copy-table-spec =
@@ -67,10 +67,10 @@ copy-table-spec =
     loop-holds
     add-from
     add-to
-    mul-result
-    slice-read-result
-    mul-result-2
-    slice-write-result
+    mul-workspace
+    slice-read-workspace
+    mul-workspace-2
+    slice-write-workspace
     add-i
     loop-less
     loop-again

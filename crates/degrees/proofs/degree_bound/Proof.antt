@@ -13,8 +13,9 @@ degree-requires-2 c κs = search needs
 
 add-both : tie.Need-add-both
 add-both c =
-    let a = c .before .before .before .before .before .before .args in
-    omega (arith, c .before .before .before .degree .ensures, c .before .before .degree2 .ensures, degree-most (a .n) (a .a .now), degree-most (a .n) (a .b .now), c .before .before .before .before .before .before .pre)
+    let s = c .before .before .before .before .before .before in
+    let a = s .args in
+    omega (arith, c .before .before .before .degree .ensures, c .before .before .degree2 .ensures, degree-most (a .n) (a .a .now), degree-most (a .n) (a .b .now), s .pre)
 
 cast-result : tie.Need-cast-result
 cast-result c = search needs

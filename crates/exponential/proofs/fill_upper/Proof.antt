@@ -1,54 +1,59 @@
+use mathlib.Core.Path.{refl}
+use native.Mathlib.Omega.{arith}
 use borrow.Author.Needs.{needs}
-use Rattle.exponential.proofs.Halves.{lower-long, lay-ready, multiply-ready, upper-filled}
+use Rattle.exponential.proofs.Halves.{half-long, upper-long, left-ready, right-ready, both-ready, upper-filled}
 use Rattle.exponential.proofs.fill_upper.Statement.{statement}
 use Rattle.exponential.proofs.fill_upper.Tie as tie
 
 power-of-two-requires : tie.Need-power-of-two-requires
 power-of-two-requires c κs = search needs
 
-slice-reshare-prefix-lay-out-left : tie.Need-slice-reshare-prefix-lay-out-left
-slice-reshare-prefix-lay-out-left c = search needs
+slice-reshare-prefix-lay-out : tie.Need-slice-reshare-prefix-lay-out
+slice-reshare-prefix-lay-out c = search needs
 
-slice-aggregate-lay-out-left : tie.Need-slice-aggregate-lay-out-left
-slice-aggregate-lay-out-left c =
-    let s = c .before .before .before .before .before in
-    lower-long (c .before .power-of-two .ensures) (s .pre .1)
+slice-aggregate-lay-out : tie.Need-slice-aggregate-lay-out
+slice-aggregate-lay-out c = half-long refl (c .before .power-of-two .ensures) (c .before .before .before .before .pre .1)
 
-lay-out-left-requires : tie.Need-lay-out-left-requires
-lay-out-left-requires c κs =
-    let s = c .before .before .before .before .before .before in
-    lay-ready (c .before .before .power-of-two .ensures) (s .pre .1)
+lay-out-requires : tie.Need-lay-out-requires
+lay-out-requires c κs = (left-ready (c .before .before .power-of-two .ensures) (c .before .before .before .before .before .pre .1), omega arith)
 
-mul-multiply-laid : tie.Need-mul-multiply-laid
-mul-multiply-laid c = search needs
+mul-lay-out : tie.Need-mul-lay-out
+mul-lay-out c = search needs
 
-sub-multiply-laid : tie.Need-sub-multiply-laid
-sub-multiply-laid c = search needs
+sub-lay-out : tie.Need-sub-lay-out
+sub-lay-out c = search needs
 
-part-multiply-laid-start : tie.Need-part-multiply-laid-start
-part-multiply-laid-start c = search needs
+part-lay-out-start : tie.Need-part-lay-out-start
+part-lay-out-start c = search needs
 
-part-multiply-laid-end : tie.Need-part-multiply-laid-end
-part-multiply-laid-end c = search needs
+part-lay-out-end : tie.Need-part-lay-out-end
+part-lay-out-end c = search needs
 
-mul-multiply-laid-2 : tie.Need-mul-multiply-laid-2
-mul-multiply-laid-2 c = search needs
+lay-out-requires-2 : tie.Need-lay-out-requires-2
+lay-out-requires-2 c κs =
+    let power = c .before .before .before .before .before .before .before .before in
+    (right-ready (power .power-of-two .ensures) (power .before .before .before .pre .1) _ (c .before .before .before .before .before .lay-out .kept .1 .1 .1 .0), omega arith)
 
-sub-multiply-laid-2 : tie.Need-sub-multiply-laid-2
-sub-multiply-laid-2 c = search needs
+mul-multiply-both : tie.Need-mul-multiply-both
+mul-multiply-both c = search needs
 
-part-multiply-laid-start-2 : tie.Need-part-multiply-laid-start-2
-part-multiply-laid-start-2 c = search needs
+sub-multiply-both : tie.Need-sub-multiply-both
+sub-multiply-both c = search needs
 
-part-multiply-laid-end-2 : tie.Need-part-multiply-laid-end-2
-part-multiply-laid-end-2 c = search needs
+part-multiply-both-start : tie.Need-part-multiply-both-start
+part-multiply-both-start c = search needs
 
-multiply-laid-requires : tie.Need-multiply-laid-requires
-multiply-laid-requires c κs =
-    let s = c .before .before .before .before .before .before .before .before .before .before .before .before in
-    let pow = c .before .before .before .before .before .before .before .before .power-of-two in
-    let lay = c .before .before .before .before .before .lay-out-left in
-    (s .pre .0, multiply-ready (pow .ensures) (s .pre .1) _ (lay .kept .1 .1 .0) (lay .ensures))
+part-multiply-both-end : tie.Need-part-multiply-both-end
+part-multiply-both-end c = search needs
+
+multiply-both-requires : tie.Need-multiply-both-requires
+multiply-both-requires c κs =
+    let power = c .before .before .before .before .before .before .before .before .before .before .before .before .before in
+    let s = power .before .before .before in
+    let e = power .power-of-two .ensures in
+    let left = c .before .before .before .before .before .before .before .before .before .before .lay-out in
+    let right = c .before .before .before .before .lay-out2 in
+    (s .pre .0, (both-ready e (s .pre .1) (left .ensures) (right .ensures) (left .kept .1 .1 .1 .0) (right .kept .1 .1 .1 .0), upper-long e (s .pre .1)))
 
 same-length : tie.Need-same-length
 same-length c = search needs
@@ -58,29 +63,29 @@ same-length-2 c = search needs
 
 returns : tie.Need-returns
 returns c =
-    let s = c .before .before .before .before .before .before .before .before .before .before .before .before .before .before .before .before .before in
-    let pow = c .before .before .before .before .before .before .before .before .before .before .before .before .before .power-of-two in
-    let lay = c .before .before .before .before .before .before .before .before .before .before .lay-out-left in
-    let product = c .before .before .before .before .multiply-laid in
-    upper-filled (pow .ensures) (s .pre .1) (lay .last .1 .1 .0) _ (lay .ensures) (product .ensures)
+    let power = c .before .before .before .before .before .before .before .before .before .before .before .before .before .before .before .before .before .before in
+    let left = c .before .before .before .before .before .before .before .before .before .before .before .before .before .before .before .lay-out in
+    let right = c .before .before .before .before .before .before .before .before .before .lay-out2 in
+    upper-filled (power .power-of-two .ensures) (power .before .before .before .pre .1) (left .ensures) (right .ensures) _ (c .before .before .before .before .multiply-both .ensures)
 
 pub fill-upper-spec : {M : Type 1} → statement M
 fill-upper-spec =
     tie.close
     (tie.spec
     power-of-two-requires
-    slice-reshare-prefix-lay-out-left
-    slice-aggregate-lay-out-left
-    lay-out-left-requires
-    mul-multiply-laid
-    sub-multiply-laid
-    part-multiply-laid-start
-    part-multiply-laid-end
-    mul-multiply-laid-2
-    sub-multiply-laid-2
-    part-multiply-laid-start-2
-    part-multiply-laid-end-2
-    multiply-laid-requires
+    slice-reshare-prefix-lay-out
+    slice-aggregate-lay-out
+    lay-out-requires
+    mul-lay-out
+    sub-lay-out
+    part-lay-out-start
+    part-lay-out-end
+    lay-out-requires-2
+    mul-multiply-both
+    sub-multiply-both
+    part-multiply-both-start
+    part-multiply-both-end
+    multiply-both-requires
     same-length
     same-length-2
     returns)

@@ -1,35 +1,29 @@
-use mathlib.Core.Path.{_≡_, refl}
-use Prim.Native.Nat.{_-_}
+use mathlib.Core.Path.{refl}
+use Prim.Native.Nat.{_-_, _^_, _<_}
 use native.Mathlib.Omega.{arith}
 use lib.ListN.{length}
-use Rattle.ranked_theory.specs.Recursion.{width}
-use Rattle.ranked_theory.specs.Tables.{RowRoom, row-room, Laying, laying-none, laying-more, laying-all}
+use Rattle.ranked_theory.specs.Layout.{place-in}
+use Rattle.ranked_theory.specs.Tables.{Laying, laying-none, laying-more, laying-all}
 use borrow.Author.Needs.{needs}
 use Rattle.ranked.proofs.lay_out.Statement.{statement}
 use Rattle.ranked.proofs.lay_out.Tie as tie
 
 abbrev Inv-loop : tie.InvT-loop
-Inv-loop n side a rows₀ w h₀ rows h = (w ≡ width n) × Laying n side a rows₀ rows h
+Inv-loop n side a rows₀ h₀ rows h = Laying n side a rows₀ rows h
 
 abbrev μ-loop : tie.MeasureT-loop
-μ-loop n side a rows₀ w h₀ rows h = length a - h
+μ-loop n side a rows₀ h₀ rows h = length a - h
 
-room : (c : tie.In-loop Inv-loop μ-loop) → RowRoom (c .before .before .before .before .before .args .n) (c .before .before .row-width .result) (c .before .loop .h) (length (c .before .before .before .before .before .args .rows .now))
-room c =
-    let s = c .before .before .before .before .before .pre .0 in
-    row-room _ _ _ _ (s .few) (c .before .loop .inv .0) (omega (arith, c .loop-test .taken, s .table)) (s .long)
-
-row-width-requires : tie.Need-row-width-requires Inv-loop μ-loop
-row-width-requires c κs = search needs
+code : (c : tie.In-loop Inv-loop μ-loop) → c .before .loop .h < 2 ^ (c .before .before .before .before .args .n)
+code c = omega (arith, c .loop-test .taken, c .before .before .before .before .pre .0 .table)
 
 loop-holds : tie.Need-loop-holds Inv-loop μ-loop
-loop-holds c = (c .row-width .ensures, laying-none _ _ _ _)
+loop-holds c = laying-none _ _ _ _
 
-mul-place : tie.Need-mul-place Inv-loop μ-loop
-mul-place c = omega (arith, room c)
-
-add-place : tie.Need-add-place Inv-loop μ-loop
-add-place c = omega (arith, room c, c .before .before .before .before .before .pre .1)
+place-requires : tie.Need-place-requires Inv-loop μ-loop
+place-requires c κs =
+    let s = c .before .before .before .before in
+    (s .pre .0 .few, s .pre .1, code c)
 
 mul-rows : tie.Need-mul-rows Inv-loop μ-loop
 mul-rows c = search needs
@@ -38,10 +32,14 @@ shared-slice-read-rows : tie.Need-shared-slice-read-rows Inv-loop μ-loop
 shared-slice-read-rows c = search needs
 
 mul-rows-2 : tie.Need-mul-rows-2 Inv-loop μ-loop
-mul-rows-2 c = omega (arith, room (c .before), c .before .before .before .before .before .before .pre .1, c .before .before .loop .inv .1 .long)
+mul-rows-2 c =
+    let s = c .before .before .before .before .before .before in
+    omega (arith, c .before .place .ensures, place-in _ _ _ (s .pre .1) (code (c .before .before)), s .pre .0 .long, c .before .before .before .loop .inv .long)
 
 slice-write-rows : tie.Need-slice-write-rows Inv-loop μ-loop
-slice-write-rows c = omega (arith, room (c .before), c .before .before .before .before .before .before .pre .1, c .before .before .loop .inv .1 .long)
+slice-write-rows c =
+    let s = c .before .before .before .before .before .before in
+    omega (arith, c .before .place .ensures, place-in _ _ _ (s .pre .1) (code (c .before .before)), s .pre .0 .long, c .before .before .before .loop .inv .long)
 
 add-h : tie.Need-add-h Inv-loop μ-loop
 add-h c = search needs
@@ -52,14 +50,13 @@ loop-less c = search needs
 loop-again : tie.Need-loop-again Inv-loop μ-loop
 loop-again c =
     let s = c .before .before .before .before .before .before .pre in
-    let v = c .before .before .loop .inv in
-    (v .0, laying-more (v .1) (s .1) (omega (arith, c .before .loop-test .taken, s .0 .table)) (s .0 .long) _ _ (v .0) refl)
+    laying-more (c .before .before .before .loop .inv) (s .1) (code (c .before .before)) (s .0 .long) _ _ (c .before .place .ensures) refl
 
 same-length : tie.Need-same-length Inv-loop μ-loop
-same-length c = c .before .loop .inv .1 .long
+same-length c = c .before .loop .inv .long
 
 returns : tie.Need-returns Inv-loop μ-loop
-returns c = laying-all (c .before .loop .inv .1) (omega (arith, c .loop-test .left, c .before .before .before .before .before .pre .0 .table))
+returns c = laying-all (c .before .loop .inv) (omega (arith, c .loop-test .left, c .before .before .before .before .pre .0 .table))
 
 pub lay-out-spec : {M : Type 1} → statement M
 lay-out-spec =
@@ -67,10 +64,8 @@ lay-out-spec =
     (tie.spec
     Inv-loop
     μ-loop
-    row-width-requires
     loop-holds
-    mul-place
-    add-place
+    place-requires
     mul-rows
     shared-slice-read-rows
     mul-rows-2

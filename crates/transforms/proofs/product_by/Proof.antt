@@ -4,8 +4,7 @@ use native.Mathlib.Omega.{arith}
 use denote.Ref.{now}
 use borrow.Author.Needs.{needs}
 use Rattle.definitions.specs.Limits.{padLength}
-use Rattle.checks.specs.Ends.{Lent, part-long, clear-fits, front-cleared}
-use Rattle.transforms.proofs.Calls.{table-fits}
+use Rattle.checks.specs.Ends.{Lent, table-fits, part-long, clear-fits, front-cleared}
 use Rattle.transforms.proofs.product_by.Statement.{statement}
 use Rattle.transforms.proofs.product_by.Tie as tie
 

@@ -1,5 +1,5 @@
 use borrow.Author.Needs.{needs}
-use Rattle.checks.proofs.Making.{also-go, also-stop, also-earlier}
+use Rattle.checks.specs.Making.{also-go, also-stop, also-earlier}
 use Rattle.checks.proofs.Checked.also.Statement.{statement}
 use Rattle.checks.proofs.Checked.also.Tie as tie
 

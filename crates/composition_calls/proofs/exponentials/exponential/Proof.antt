@@ -1,3 +1,4 @@
+use mathlib.Core.Path.{sym, ap, _∙_}
 use Prim.Native.Nat.{ℕ}
 use native.Mathlib.Nat.{le-refl}
 use native.Mathlib.Omega.{arith}
@@ -9,7 +10,7 @@ use Rattle.definitions.specs.Refusals.{exponentialNumber}
 use Rattle.checks.specs.Accepted.{Single}
 use Rattle.checks.specs.Answers.{accepted}
 use Rattle.checks.specs.Ends.{Lent, used-in, part-long, clear-fits, front-cleared, accepted-call, refused-call}
-use Rattle.composition_calls.specs.Cores.{started, ready}
+use Rattle.composition_calls.specs.Cores.{started, copied}
 use Rattle.composition_calls.proofs.exponentials.exponential.Statement.{statement}
 use Rattle.composition_calls.proofs.exponentials.exponential.Tie as tie
 
@@ -33,22 +34,25 @@ enum-known-modulus c = search needs
 pad-length-requires : tie.Need-pad-length-requires
 pad-length-requires c κs = found (c .before) .range .few
 
+copy-requires : tie.Need-copy-requires
+copy-requires c κs = let h = found (c .before .before .before) in h .table .size ∙ sym (h .result)
+
 slice-relend-prefix-exponential-table : tie.Need-slice-relend-prefix-exponential-table
-slice-relend-prefix-exponential-table c = used-in (lent (c .before))
+slice-relend-prefix-exponential-table c = used-in (lent (c .before .before .before .before .before))
 
 slice-aggregate-exponential-table : tie.Need-slice-aggregate-exponential-table
-slice-aggregate-exponential-table c = part-long (lent (c .before .before)) (le-refl _)
+slice-aggregate-exponential-table c = part-long (lent (c .before .before .before .before .before .before)) (le-refl _)
 
 exponential-table-requires : tie.Need-exponential-table-requires
 exponential-table-requires c κs =
-    let at = c .before .before in
+    let at = c .before .before .before .before .before .before in
     let s = at .before .before .before .before .check-start .ensures .stands _ (at .before .before .modulus .given .1) in
-    (s .valid, ready (found (at .before .before)) (lent at) s)
+    (s .valid, copied (lent at) (found (at .before .before)) s _ (c .before .before .before .before .copy .ensures))
 
 clear-requires : tie.Need-clear-requires
 clear-requires c κs =
-    let at = c .before .before .before .before .before in
-    omega (arith, clear-fits (lent (at .before .before .before)) (le-refl _) (at .exponential-table .last .1 .1 .1 .1 .0) (at .exponential-table .kept .1 .1 .1 .1 .0))
+    let made = c .before .before .before .before .before .exponential-table in
+    omega (arith, clear-fits (lent (c .before .before .before .before .before .before .before .before .before .before .before .before)) (le-refl _) (made .last .1 .1 .1 .0) (made .kept .1 .1 .1 .0))
 
 enum-known-word : tie.Need-enum-known-word
 enum-known-word c = search needs
@@ -62,13 +66,14 @@ same-length-2 c = search needs
 returns : tie.Need-returns
 unfolding exponentialNumber
 returns c =
-    let at = c .before .before .before .before .before .before .before .before in
-    let lending = at .before .before .before in
+    let lending = c .before .before .before .before .before .before .before .before .before .before .before .before .before .before .before in
     let accepting = lending .before .before in
     let s = start accepting .args in
+    let made = c .before .before .before .before .before .before .before .before .exponential-table in
     accepted-call (accepting .before .before .check-start .ensures) (accepting .modulus .given .1)
-    (λ (m : ℕ). exponentialTable (s .n) m (now (s .a))) (at .exponential-table .ensures)
-    _ _ (front-cleared (lent lending) (le-refl _) (at .exponential-table .last .1 .1 .1 .1 .0) (at .exponential-table .kept .1 .1 .1 .1 .0) (c .before .before .clear .ensures))
+    (λ (m : ℕ). exponentialTable (s .n) m (now (s .a)))
+    (made .ensures ∙ ap (exponentialTable (s .n) _) (c .before .before .before .before .before .before .before .before .before .before .before .before .before .copy .ensures))
+    _ _ (front-cleared (lent lending) (le-refl _) (made .last .1 .1 .1 .0) (made .kept .1 .1 .1 .0) (c .before .before .clear .ensures))
 
 returns-2 : tie.Need-returns-2
 unfolding exponentialNumber
@@ -83,6 +88,7 @@ exponential-spec =
     check-start-requires
     enum-known-modulus
     pad-length-requires
+    copy-requires
     slice-relend-prefix-exponential-table
     slice-aggregate-exponential-table
     exponential-table-requires

@@ -7,7 +7,7 @@ use lib.ListN.{length}
 use borrow.Author.Needs.{needs}
 use Rattle.checks.specs.Accepted.{Single}
 use Rattle.checks.specs.Ends.{Lent, used-in, part-long, clear-fits, front-cleared, accepted-call, refused-call}
-use Rattle.composition_calls.specs.Cores.{ready}
+use Rattle.composition_calls.specs.Cores.{ready, result-ready, result-taken}
 use Rattle.series_calls.specs.InverseTables.{inverseTable}
 use Rattle.series_calls.proofs.Inverting.{checked, has-first, first-below, refused-early, divisor-shared, invertible, inverted, is-inverse}
 use Rattle.series_calls.proofs.inverses.inverse.Statement.{statement}
@@ -52,22 +52,30 @@ pad-length-requires : tie.Need-pad-length-requires
 pad-length-requires c κs = found (c .before .before .before .before .before .before) .range .few
 
 slice-relend-prefix-inverse-table : tie.Need-slice-relend-prefix-inverse-table
-slice-relend-prefix-inverse-table c = used-in (lent (c .before))
+slice-relend-prefix-inverse-table c = used-in (lent c)
 
 slice-aggregate-inverse-table : tie.Need-slice-aggregate-inverse-table
-slice-aggregate-inverse-table c = part-long (lent (c .before .before)) (le-refl _)
+slice-aggregate-inverse-table c = part-long (lent (c .before)) (le-refl _)
 
 inverse-table-requires : tie.Need-inverse-table-requires
 inverse-table-requires c κs =
-    let at = c .before .before in
+    let at = c .before in
     let s = accepting at .before .before .check-single .ensures .stands _ (accepting at .modulus .given .1) in
     let one = at .before .before .before .before .reciprocal .ensures .reciprocal _ (at .before .before .u .given .1) in
-    (s .valid, (one .below, ready (found (accepting at)) (lent at) s))
+    (s .valid, (one .below, ready (lent at) (found (accepting at)) s))
+
+take-result-requires : tie.Need-take-result-requires
+take-result-requires c κs =
+    let at = c .before .before .before .before in
+    let lending = at .before .before in
+    let made = at .inverse-table in
+    let facts = found (accepting lending) in
+    result-ready _ (lent lending) (made .last .1 .1 .1 .1 .0) (made .kept .1 .1 .1 .1 .0) (facts .range .few) _ (facts .result)
 
 clear-requires : tie.Need-clear-requires
 clear-requires c κs =
-    let at = c .before .before .before .before .before in
-    omega (arith, clear-fits (lent (at .before .before .before)) (le-refl _) (at .inverse-table .last .1 .1 .1 .1 .1 .0) (at .inverse-table .kept .1 .1 .1 .1 .1 .0))
+    let at = c .before .before .before .before .before .before .before .before in
+    omega (arith, clear-fits (lent (at .before .before)) (le-refl _) (at .inverse-table .last .1 .1 .1 .1 .0) (at .inverse-table .kept .1 .1 .1 .1 .0))
 
 enum-told : tie.Need-enum-told
 enum-told c = search needs
@@ -83,15 +91,17 @@ same-length-2 c = search needs
 
 returns : tie.Need-returns
 returns c =
-    let at = c .before .before .before .before .before .before .before .before in
-    let lending = at .before .before .before in
+    let at = c .before .before .before .before .before .before .before .before .before .before .before in
+    let lending = at .before .before in
+    let made = at .inverse-table in
     let s = start (accepting lending) .args in
     let h = accepting lending .before .before .check-single .ensures in
     let e = accepting lending .modulus .given .1 in
     let one = lending .before .before .before .before .reciprocal .ensures .reciprocal _ (lending .before .before .u .given .1) in
     let end = accepted-call (invertible _ _ _ _ _ h e _ one) e (λ (m : ℕ). inverseTable (s .n) m (now (s .a)))
-    (inverted (s .n) (s .m) (now (s .a)) _ _ h e _ one (at .inverse-table .ensures))
-    _ _ (front-cleared (lent lending) (le-refl _) (at .inverse-table .last .1 .1 .1 .1 .1 .0) (at .inverse-table .kept .1 .1 .1 .1 .1 .0) (c .before .before .clear .ensures)) in
+    (inverted (s .n) (s .m) (now (s .a)) _ _ h e _ one
+    (result-taken (s .n) (lent lending) _ (made .kept .1 .1 .1 .1 .0) (made .ensures) (c .before .before .before .before .before .before .take-result .ensures)))
+    _ _ (front-cleared (lent lending) (le-refl _) (made .last .1 .1 .1 .1 .0) (made .kept .1 .1 .1 .1 .0) (c .before .before .clear .ensures)) in
     (end .0, (end .1 .0, ((λ z. is-inverse _ _ _ _ _ h e _ one (end .1 .0)), end .1 .1)))
 
 returns-2 : tie.Need-returns-2
@@ -122,6 +132,7 @@ inverse-spec =
     slice-relend-prefix-inverse-table
     slice-aggregate-inverse-table
     inverse-table-requires
+    take-result-requires
     clear-requires
     enum-told
     enum-known-word

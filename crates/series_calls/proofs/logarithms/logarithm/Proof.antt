@@ -9,7 +9,7 @@ use Rattle.theory.specs.Logarithm.{logarithmOf}
 use Rattle.checks.specs.Accepted.{Single}
 use Rattle.checks.specs.Answers.{accepted}
 use Rattle.checks.specs.Ends.{Lent, used-in, part-long, clear-fits, front-cleared, accepted-call, refused-call}
-use Rattle.composition_calls.specs.Cores.{started, ready}
+use Rattle.composition_calls.specs.Cores.{started, ready, result-ready, result-taken}
 use Rattle.series_calls.proofs.Logging.{is-logarithm}
 use Rattle.series_calls.proofs.logarithms.logarithm.Statement.{statement}
 use Rattle.series_calls.proofs.logarithms.logarithm.Tie as tie
@@ -35,21 +35,29 @@ pad-length-requires : tie.Need-pad-length-requires
 pad-length-requires c κs = found (c .before) .range .few
 
 slice-relend-prefix-logarithm-table : tie.Need-slice-relend-prefix-logarithm-table
-slice-relend-prefix-logarithm-table c = used-in (lent (c .before))
+slice-relend-prefix-logarithm-table c = used-in (lent c)
 
 slice-aggregate-logarithm-table : tie.Need-slice-aggregate-logarithm-table
-slice-aggregate-logarithm-table c = part-long (lent (c .before .before)) (le-refl _)
+slice-aggregate-logarithm-table c = part-long (lent (c .before)) (le-refl _)
 
 logarithm-table-requires : tie.Need-logarithm-table-requires
 logarithm-table-requires c κs =
-    let at = c .before .before in
+    let at = c .before in
     let s = at .before .before .before .before .check-start .ensures .stands _ (at .before .before .modulus .given .1) in
-    (s .valid, ready (found (at .before .before)) (lent at) s)
+    (s .valid, ready (lent at) (found (at .before .before)) s)
+
+take-result-requires : tie.Need-take-result-requires
+take-result-requires c κs =
+    let at = c .before .before .before .before in
+    let lending = at .before .before in
+    let made = at .logarithm-table in
+    let facts = found (lending .before .before) in
+    result-ready _ (lent lending) (made .last .1 .1 .1 .0) (made .kept .1 .1 .1 .0) (facts .range .few) _ (facts .result)
 
 clear-requires : tie.Need-clear-requires
 clear-requires c κs =
-    let at = c .before .before .before .before .before in
-    omega (arith, clear-fits (lent (at .before .before .before)) (le-refl _) (at .logarithm-table .last .1 .1 .1 .1 .0) (at .logarithm-table .kept .1 .1 .1 .1 .0))
+    let at = c .before .before .before .before .before .before .before .before in
+    omega (arith, clear-fits (lent (at .before .before)) (le-refl _) (at .logarithm-table .last .1 .1 .1 .0) (at .logarithm-table .kept .1 .1 .1 .0))
 
 enum-known-word : tie.Need-enum-known-word
 enum-known-word c = search needs
@@ -63,14 +71,16 @@ same-length-2 c = search needs
 returns : tie.Need-returns
 unfolding logarithmNumber
 returns c =
-    let at = c .before .before .before .before .before .before .before .before in
-    let lending = at .before .before .before in
+    let at = c .before .before .before .before .before .before .before .before .before .before .before in
+    let lending = at .before .before in
+    let made = at .logarithm-table in
     let accepting = lending .before .before in
     let s = start accepting .args in
     let h = accepting .before .before .check-start .ensures in
     let e = accepting .modulus .given .1 in
-    let end = accepted-call h e (λ (m : ℕ). logarithmOf (s .n) m (now (s .e))) (at .logarithm-table .ensures)
-    _ _ (front-cleared (lent lending) (le-refl _) (at .logarithm-table .last .1 .1 .1 .1 .0) (at .logarithm-table .kept .1 .1 .1 .1 .0) (c .before .before .clear .ensures)) in
+    let end = accepted-call h e (λ (m : ℕ). logarithmOf (s .n) m (now (s .e)))
+    (result-taken (s .n) (lent lending) _ (made .kept .1 .1 .1 .0) (made .ensures) (c .before .before .before .before .before .before .take-result .ensures))
+    _ _ (front-cleared (lent lending) (le-refl _) (made .last .1 .1 .1 .0) (made .kept .1 .1 .1 .0) (c .before .before .clear .ensures)) in
     (end .0, (end .1 .0, ((λ z. is-logarithm _ _ _ _ _ (accepted h e) (end .1 .0)), end .1 .1)))
 
 returns-2 : tie.Need-returns-2
@@ -92,6 +102,7 @@ logarithm-spec =
     slice-relend-prefix-logarithm-table
     slice-aggregate-logarithm-table
     logarithm-table-requires
+    take-result-requires
     clear-requires
     enum-known-word
     same-length

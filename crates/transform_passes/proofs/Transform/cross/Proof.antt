@@ -1,8 +1,8 @@
 use Prim.Native.Nat.{_-_}
 use native.Mathlib.Omega.{arith}
 use lib.ListN.{length-set}
+use Rattle.theory.specs.PassLoops.{Crossing, crossing-start, lower-read, upper-read, crossing-turn, crossing-end}
 use Rattle.transform_passes.specs.Steps.{lowerOf, upperOf}
-use Rattle.transform_passes.proofs.Blocks.{Crossing, start, end, lower-read, upper-read, turn}
 use Rattle.transform_passes.proofs.Transform.cross.Statement.{statement}
 use Rattle.transform_passes.proofs.Transform.cross.Tie as tie
 
@@ -14,7 +14,7 @@ abbrev μ-loop : tie.MeasureT-loop
 μ-loop self modulus half block₀ t₀ block t = half - t
 
 loop-holds : tie.Need-loop-holds Inv-loop μ-loop
-loop-holds c = start (c .before .pre .1 .size)
+loop-holds c = crossing-start (c .before .pre .1 .size)
 
 add-with : tie.Need-add-with Inv-loop μ-loop
 add-with c = omega arith
@@ -65,13 +65,13 @@ loop-less c = omega arith
 
 loop-again : tie.Need-loop-again Inv-loop μ-loop
 loop-again c =
-    turn (c .before .before .before .before .before .loop .inv) (omega arith) (c .before .lower .ensures .same) (c .upper .ensures .same)
+    crossing-turn (c .before .before .before .before .before .loop .inv) (omega arith) (c .before .lower .ensures .same) (c .upper .ensures .same)
 
 same-length : tie.Need-same-length Inv-loop μ-loop
 same-length c = omega arith
 
 returns : tie.Need-returns Inv-loop μ-loop
-returns c = end (c .before .loop .inv) (omega arith)
+returns c = crossing-end (c .before .loop .inv) (omega arith)
 
 pub cross-spec : {M : Type 1} → statement M
 cross-spec =

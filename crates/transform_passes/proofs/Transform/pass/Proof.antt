@@ -1,8 +1,8 @@
 use Prim.Native.Nat.{suc, _-_}
 use native.Mathlib.Omega.{arith}
 use lib.Pow.{pow-mono}
+use Rattle.theory.specs.PassLoops.{Passing, passing-start, passing-length, block-fits, lent-size, lent-below, passing-turn, passing-end}
 use Rattle.transform_passes.specs.Steps.{lowerOf, upperOf}
-use Rattle.transform_passes.proofs.Table.{Passing, begun, length-kept, all-passed, fits, lent-entries, block-passed}
 use Rattle.transform_passes.proofs.Transform.pass.Statement.{statement}
 use Rattle.transform_passes.proofs.Transform.pass.Tie as tie
 
@@ -33,30 +33,31 @@ power-requires-2 c κs = omega arith
 
 loop-holds : tie.Need-loop-holds Inv-loop μ-loop
 loop-holds c =
-    begun (c .before .before .before .pre .1) (c .before .power .ensures) (c .power2 .ensures) (c .before .before .before .pre .0 .table .size)
+    passing-start (c .before .before .before .pre .1) (c .before .power .ensures) (c .power2 .ensures) (c .before .before .before .pre .0 .table .size)
 
 mul-start : tie.Need-mul-start Inv-loop μ-loop
-mul-start c = omega (arith, fits (c .before .loop .inv) (omega arith), length-kept (c .before .loop .inv))
+mul-start c = omega (arith, block-fits (c .before .loop .inv) (omega arith), passing-length (c .before .loop .inv))
 
 add-end : tie.Need-add-end Inv-loop μ-loop
-add-end c = omega (arith, fits (c .before .loop .inv) (omega arith), length-kept (c .before .loop .inv))
+add-end c = omega (arith, block-fits (c .before .loop .inv) (omega arith), passing-length (c .before .loop .inv))
 
 mul-cross : tie.Need-mul-cross Inv-loop μ-loop
-mul-cross c = omega (arith, fits (c .before .loop .inv) (omega arith), length-kept (c .before .loop .inv))
+mul-cross c = omega (arith, block-fits (c .before .loop .inv) (omega arith), passing-length (c .before .loop .inv))
 
 sub-cross : tie.Need-sub-cross Inv-loop μ-loop
 sub-cross c = omega arith
 
 part-cross-start : tie.Need-part-cross-start Inv-loop μ-loop
-part-cross-start c = omega (arith, fits (c .before .loop .inv) (omega arith), length-kept (c .before .loop .inv))
+part-cross-start c = omega (arith, block-fits (c .before .loop .inv) (omega arith), passing-length (c .before .loop .inv))
 
 part-cross-end : tie.Need-part-cross-end Inv-loop μ-loop
-part-cross-end c = omega (arith, fits (c .before .loop .inv) (omega arith), length-kept (c .before .loop .inv))
+part-cross-end c = omega (arith, block-fits (c .before .loop .inv) (omega arith), passing-length (c .before .loop .inv))
 
 cross-requires : tie.Need-cross-requires Inv-loop μ-loop
 cross-requires c κs =
     let first = c .before .before .before .before .before .before in
-    (first .pre .0 .valid, lent-entries (c .before .before .loop .inv) (omega arith) (first .pre .0 .table))
+    let so-far = c .before .before .loop .inv in
+    (first .pre .0 .valid, record { size = lent-size so-far (omega arith); below = lent-below so-far (omega arith) (first .pre .0 .table .below) })
 
 add-block : tie.Need-add-block Inv-loop μ-loop
 add-block c = omega arith
@@ -66,13 +67,13 @@ loop-less c = omega arith
 
 loop-again : tie.Need-loop-again Inv-loop μ-loop
 loop-again c =
-    block-passed (c .before .before .before .before .before .loop .inv) (omega arith) (c .before .before .cross .ensures)
+    passing-turn (c .before .before .before .before .before .loop .inv) (omega arith) (c .before .before .cross .ensures)
 
 same-length : tie.Need-same-length Inv-loop μ-loop
-same-length c = length-kept (c .before .loop .inv)
+same-length c = passing-length (c .before .loop .inv)
 
 returns : tie.Need-returns Inv-loop μ-loop
-returns c = all-passed (c .before .loop .inv) (omega arith)
+returns c = passing-end (c .before .loop .inv) (omega arith)
 
 pub pass-spec : {M : Type 1} → statement M
 pass-spec =

@@ -1,17 +1,18 @@
--- How the checks make their answers: the tests of the panel and of the modulus, the list of words behind them, and a test
--- that comes after the others.
+-- How a check makes its answer, for the checks of this crate and for a call that tests in a crate of its own.
+--   panel-refused, panel-within, past-panel   the panel's test, before the others
+--   these-words, _then_, no-more              the words behind the modulus', of which `check_modulus` is told the first
+--   table-length                              the length of a table, which is worked out once
+--   also-go, also-stop, also-earlier          the cases of `Checked::also`; a caller of it cites `also-tested` of Answers
+--   modulus-stands, modulus-refused           the cases of the modulus' own test
 use mathlib.Core.Path.{_≡_, refl, sym, _∙_, ap, ap₂}
 use mathlib.Core.List.{List, [], _∷_}
 use Prim.Native.Nat.{ℕ, zero, suc, _^_, _≤_}
-use native.Mathlib.Nat.{suc-ne-zero}
-use lib.Dec.{ltb}
-use borrow.Author.Tests.{ltb-false}
 use Rattle.definitions.specs.Limits.{mostControls}
 use Rattle.definitions.specs.Refusals.{orElse, firstWord, panelWord, modulusWord, tableWord}
 use Rattle.residues.specs.Moduli.{MadeFrom, RefusedFor}
 use Rattle.residues.specs.declared.Modulus.{Modulus}
-use Rattle.checks.specs.Words.{orElse-stop, orElse-go, no-word}
-use Rattle.checks.specs.Accepted.{lengthWord}
+use Rattle.checks.specs.Words.{orElse-stop, orElse-go}
+use Rattle.checks.specs.Accepted.{lengthWord, few-controls}
 use Rattle.checks.specs.Answers.{IsChecked, alsoTested, is-refused, is-accepted, same-number}
 use Rattle.checks.specs.declared.Checked.{Checked}
 use Rattle.checks.specs.declared.Checked.the-variants.{Accepted, Refused}
@@ -22,8 +23,8 @@ module _ (n : ℕ) {w : ℕ} (e : w ≡ panelWord n) where
   panel-refused k h = is-refused (e ∙ sym (orElse-stop (panelWord n) k (λ z. h (e ∙ z)))) h
 
   module _ (z : w ≡ 0) where
-    pub within : n ≤ mostControls
-    within = ltb-false mostControls n (no-word (ltb mostControls n) 1 (suc-ne-zero 0) (sym e ∙ z))
+    pub panel-within : n ≤ mostControls
+    panel-within = few-controls n (sym e ∙ z)
 
     pub past-panel : {m k : ℕ} {r : Checked} → IsChecked m k r → IsChecked m (orElse (panelWord n) k) r
     past-panel {k = k} x = same-number (sym (orElse-go (panelWord n) k (sym e ∙ z))) x
