@@ -1,8 +1,8 @@
 -- What an accepted call on one table, or on a table and a row, hands to its core.
---   started, first-is     exponential and logarithm
+--   started, first-is              exponential and logarithm
 --   composition-table, row-ready   composition
---   ready                 a table and the part of the pad that is lent; copied: a table in the result
---   result-ready, -taken  the result of a composition, in the pad when the part has come back
+--   ready, copied                  a table and the part of the pad that is lent; the table in the result
+--   result-ready, result-taken     the result of a composition, in the pad when the part has come back
 use mathlib.Core.Path.{_≡_, sym, ap, _∙_}
 use mathlib.Core.List.{List, _++_}
 use Prim.Native.Nat.{ℕ, _+_, _^_, _≤_}

@@ -46,7 +46,7 @@ fn read_within(k: usize, target: usize, workspace: &mut [u32])
 }
 
 // The product of the table of k controls at one place of the workspace and b, into another place, or the same one. The rows
-// stand in front of both; the rest of the workspace is not touched.
+// stand in front of both, and nothing else behind them changes.
 pub fn multiply_within(
     k: usize,
     modulus: Modulus,
