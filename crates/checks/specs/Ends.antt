@@ -1,17 +1,18 @@
 -- How a call ends: the pad that it worked in, and what it answers for an `Accepted` or a `Refused`.
---   Usable, used-in, part-long   a call lends the part of its pad that it may use, or the front of that part, to a worker; Lent: of W
---   table-fits                   a table is such a front
---   clear-fits, front-cleared    whatever the worker left there, clearing the part makes the pad what the call promises
---   accepted-call, refused-call  number, result and pad; refused-result without the pad
+--   Usable, used-in, part-long    a call lends the part of its pad that it may use, or the front of that part, to a worker; Lent: of W
+--   table-fits                    a table is such a front
+--   clear-fits, front-cleared     whatever the worker left there, clearing the part makes the pad what the call promises (same-cleared)
+--   accepted-call, refused-call   number, result and pad; refused-result without the pad
 use mathlib.Core.Path.{_≡_, sym, ap, _∙_}
 use mathlib.Core.List.{List, _++_}
-use Prim.Native.Nat.{ℕ, _+_, _-_, _^_, _≤_}
+use Prim.Native.Nat.{ℕ, _^_, _≤_}
 use native.Mathlib.Omega.{arith}
 use lib.ListN.{length, take, drop}
-use lib.Seq.{length-take-le, length-front, drop-at, drop-drop}
+use lib.Seq.{length-take-le, length-front}
 use Rattle.definitions.specs.Limits.{padLength}
 use Rattle.definitions.specs.Sums.{tabulate}
 use Rattle.definitions.specs.Refusals.{after, cleared, padAfter}
+use Rattle.theory.specs.Parts.{behind-front}
 use Rattle.residues.specs.declared.Modulus.{Modulus}
 use Rattle.checks.specs.Answers.{IsChecked, accepted, refused, word-kept}
 use Rattle.checks.specs.declared.Checked.{Checked}
@@ -32,6 +33,11 @@ pub table-fits : (n : ℕ) → 2 ^ n ≤ padLength n
 unfolding padLength
 table-fits n = omega arith
 
+-- what was worked on in the part counts for nothing once it is cleared
+pub same-cleared : (most : ℕ) (p q : List ℕ) → drop most p ≡ drop most q → cleared most p ≡ cleared most q
+unfolding cleared
+same-cleared most p q e = ap (λ (l : List ℕ). tabulate most (λ i. 0) ++ l) e
+
 module _ {most used : ℕ} {pad : List ℕ} (h : Usable most used pad) where
   pub used-in : used ≤ length pad
   used-in = omega (arith, h .used-is, h .room)
@@ -46,20 +52,9 @@ module _ {most used : ℕ} {pad : List ℕ} (h : Usable most used pad) where
       pub clear-fits : used ≤ length (new ++ drop long pad)
       clear-fits = omega (arith, length-front pad new long kept, used-in)
 
-      rest : drop used (new ++ drop long pad) ≡ drop used pad
-      rest =
-          let split : used ≡ long + (used - long) = omega arith in
-          ap (λ (k : ℕ). drop k (new ++ drop long pad)) split
-          ∙ sym (drop-drop (used - long) long (new ++ drop long pad))
-          ∙ ap (drop (used - long)) (drop-at new (drop long pad) long (kept ∙ sym part-long))
-          ∙ drop-drop (used - long) long pad
-          ∙ ap (λ (k : ℕ). drop k pad) (sym split)
-
       pub front-cleared : {last : List ℕ} → last ≡ cleared used (new ++ drop long pad) → last ≡ cleared most pad
-      unfolding cleared
       front-cleared e =
-          e ∙ ap (λ (l : List ℕ). tabulate used (λ i. 0) ++ l) rest
-          ∙ ap (λ (k : ℕ). tabulate k (λ i. 0) ++ drop k pad) (h .used-is)
+          e ∙ same-cleared used _ _ (behind-front long used pad new (kept ∙ sym part-long) part) ∙ ap (λ (k : ℕ). cleared k pad) (h .used-is)
 
 -- ---- the answer
 

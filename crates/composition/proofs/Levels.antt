@@ -2,13 +2,13 @@
 use mathlib.Core.Path.{_≡_, refl, sym, ap, ap₂, subst, _∙_, fun-ext}
 use mathlib.Core.List.{List}
 use mathlib.Core.Logic.{⊎-elim}
-use Prim.Native.Nat.{ℕ, zero, suc, _+_, _-_, _*_, _%_, _^_, _<_, _≤_}
-use native.Mathlib.Nat.{mod-lt, mod-eq-of-lt, mul-le-mul-right, pow-suc, add-zero, zero-add}
+use Prim.Native.Nat.{ℕ, suc, _+_, _-_, _*_, _%_, _^_, _<_, _≤_}
+use native.Mathlib.Nat.{mod-lt, mod-eq-of-lt, add-zero, zero-add}
 use native.Mathlib.Numerals.{add-one}
 use native.Mathlib.Omega.{arith}
 use lib.Arith.{lt-one}
 use lib.ListN.{length, take, drop, length-append, length-drop, List·getD-append}
-use lib.Pow.{pow-add, pow-mono}
+use lib.Pow.{pow-mono}
 use lib.Seq.{length-take-le, drop-at, getD-take, getD-drop}
 use borrow.Rule.Slice.PartMut.{putMid}
 use Rattle.definitions.specs.Sums.{tabulate, at}
@@ -16,24 +16,12 @@ use Rattle.definitions.specs.Partitions.{compositionSum, compositionTable}
 use Rattle.theory.specs.Tests.{below-or}
 use Rattle.theory.specs.Lists.{filled, filled-all, length-tabulate, at-tabulate, tabulate-of, residues-of}
 use Rattle.theory.specs.Parts.{part-behind, put-behind}
+use Rattle.theory.specs.Powers.{more-than, slots-fit}
 use Rattle.theory.specs.Composition.{composition-empty}
 use Rattle.ranked_theory.specs.Layout.{rowsLength, rows-mono}
 use Rattle.composition.specs.Ready.{Ready, RowReady, ResultReady, resultIn}
 use Rattle.composition.specs.Slots.{from, Slots, Turned, TurnReady, LevelReady, LevelRaised}
 use Rattle.composition.proofs.Turns.{turned-old, turned-new}
-
--- ---- room
-
-pub double-le : (j : ℕ) → 2 * suc j ≤ 2 ^ suc j
-double-le zero = omega arith
-double-le (suc j) = rw (pow-suc 2 (suc j)) (omega (arith, double-le j))
-
--- the tables of a level fit
-pub slots-fit : (n k j : ℕ) → suc j + k ≤ n → 2 * (suc j * 2 ^ k) ≤ 2 ^ n
-slots-fit n k j h =
-    let one : 2 * suc j * 2 ^ k ≤ 2 ^ suc j * 2 ^ k = mul-le-mul-right (2 ^ k) (double-le j) in
-    let two : 2 ^ suc j * 2 ^ k ≤ 2 ^ n = rw (sym (pow-add 2 (suc j) k)) (pow-mono h) in
-    omega arith
 
 -- ---- one level
 
@@ -95,10 +83,6 @@ module _ {n k m start : ℕ} {a w₀ : List ℕ} (d : LevelReady n k m start a w
   raised {i} {w} z o f s = let e : i ≡ 0 = omega arith in subst (λ (j : ℕ). Slots m (suc k) j (n - k) f (at a) (drop start w)) e (o .new f s)
 
 -- ---- all levels
-
-more-than : (n : ℕ) → n < 2 ^ n
-more-than zero = omega arith
-more-than (suc n) = omega (arith, more-than n)
 
 -- what the levels have so far
 pub record Composing (n m start : ℕ) (a f w₀ : List ℕ) (k : ℕ) (w : List ℕ) : Type 0 where

@@ -3,22 +3,19 @@ use mathlib.Core.Path.{_≡_, sym, ap, _∙_, fun-ext}
 use mathlib.Core.List.{List}
 use mathlib.Core.Logic.{⊎-elim}
 use Prim.Native.Nat.{ℕ, zero, suc, _+_, _*_, _%_, _^_, _<_, _≤_}
-use native.Mathlib.Nat.{mod-mod, mul-le-mul-right, eq-or-lt-of-le, add-suc, suc-add, pow-suc}
+use native.Mathlib.Nat.{mod-mod, mul-le-mul-right, eq-or-lt-of-le, add-suc, suc-add}
 use native.Mathlib.Omega.{arith}
 use Rattle.definitions.specs.Sums.{at}
 use Rattle.definitions.specs.Partitions.{compositionSum}
 use Rattle.theory.specs.Lists.{at-residues}
 use Rattle.theory.specs.Parts.{at-part}
+use Rattle.theory.specs.Powers.{two-slots}
 use Rattle.theory.specs.Codes.{by-top}
 use Rattle.theory.specs.Halves.{Row, shift}
 use Rattle.theory.specs.Composition.{composition-lo}
 use Rattle.ranked_within.specs.Within.{tableAt}
 use Rattle.composition.specs.Slots.{from, Slots, Turned}
 use Rattle.composition.proofs.Upper.{composition-upper}
-
--- a slot of the next size is two slots
-pub two-slots : (i k : ℕ) → i * 2 ^ suc k ≡ 2 * (i * 2 ^ k)
-two-slots i k = rw (pow-suc 2 k) (omega arith)
 
 module _ (m k : ℕ) (f : ℕ → ℕ) (a r s : List ℕ) where
   shifted : (i : ℕ) → from (suc i) f ≡ shift (from i f)

@@ -2,6 +2,7 @@ pub mod Tests
 pub mod Sums
 pub mod Lists
 pub mod Parts
+pub mod Powers
 pub mod Codes
 pub mod Remainders
 pub mod Entries

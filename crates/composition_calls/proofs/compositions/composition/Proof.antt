@@ -8,7 +8,8 @@ use Rattle.definitions.specs.Partitions.{compositionTable}
 use Rattle.checks.specs.Accepted.{Single}
 use Rattle.checks.specs.Answers.{accepted}
 use Rattle.checks.specs.Ends.{Lent, used-in, part-long, clear-fits, front-cleared, accepted-call, refused-call}
-use Rattle.composition_calls.specs.Cores.{composition-table, row-ready, ready, result-ready, result-taken}
+use Rattle.composition.specs.Results.{result-ready, result-taken}
+use Rattle.composition_calls.specs.Cores.{composition-table, row-ready, front, ready}
 use Rattle.composition_calls.proofs.compositions.composition.Statement.{statement}
 use Rattle.composition_calls.proofs.compositions.composition.Tie as tie
 
@@ -51,7 +52,8 @@ take-result-requires c κs =
     let at = c .before .before .before .before in
     let lending = at .before .before in
     let made = at .composition-table in
-    result-ready _ (lent lending) (made .last .1 .1 .1 .1 .0) (made .kept .1 .1 .1 .1 .0) (found (lending .before .before) .range .few) _ (found (lending .before .before) .result)
+    let facts = found (lending .before .before) in
+    result-ready (front (lent lending) facts) (made .last .1 .1 .1 .1 .0) (made .kept .1 .1 .1 .1 .0) _ (facts .result)
 
 clear-requires : tie.Need-clear-requires
 clear-requires c κs =
@@ -76,7 +78,7 @@ returns c =
     let made = at .composition-table in
     accepted-call (accepting .before .before .check-composition .ensures) (accepting .modulus .given .1)
     (λ (m : ℕ). compositionTable (s .n) m (now (s .f)) (now (s .a)))
-    (result-taken (s .n) (lent lending) _ (made .kept .1 .1 .1 .1 .0) (made .ensures) (c .before .before .before .before .before .before .take-result .ensures))
+    (result-taken (front (lent lending) (found (lending .before .before))) _ (made .kept .1 .1 .1 .1 .0) (made .ensures) (c .before .before .before .before .before .before .take-result .ensures))
     _ _ (front-cleared (lent lending) (le-refl _) (made .last .1 .1 .1 .1 .0) (made .kept .1 .1 .1 .1 .0) (c .before .before .clear .ensures))
 
 returns-2 : tie.Need-returns-2

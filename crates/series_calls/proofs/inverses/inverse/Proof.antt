@@ -7,7 +7,8 @@ use lib.ListN.{length}
 use borrow.Author.Needs.{needs}
 use Rattle.checks.specs.Accepted.{Single}
 use Rattle.checks.specs.Ends.{Lent, used-in, part-long, clear-fits, front-cleared, accepted-call, refused-call}
-use Rattle.composition_calls.specs.Cores.{ready, result-ready, result-taken}
+use Rattle.composition.specs.Results.{result-ready, result-taken}
+use Rattle.composition_calls.specs.Cores.{front, ready}
 use Rattle.series_calls.specs.InverseTables.{inverseTable}
 use Rattle.series_calls.proofs.Inverting.{checked, has-first, first-below, refused-early, divisor-shared, invertible, inverted, is-inverse}
 use Rattle.series_calls.proofs.inverses.inverse.Statement.{statement}
@@ -70,7 +71,7 @@ take-result-requires c κs =
     let lending = at .before .before in
     let made = at .inverse-table in
     let facts = found (accepting lending) in
-    result-ready _ (lent lending) (made .last .1 .1 .1 .1 .0) (made .kept .1 .1 .1 .1 .0) (facts .range .few) _ (facts .result)
+    result-ready (front (lent lending) facts) (made .last .1 .1 .1 .1 .0) (made .kept .1 .1 .1 .1 .0) _ (facts .result)
 
 clear-requires : tie.Need-clear-requires
 clear-requires c κs =
@@ -100,7 +101,7 @@ returns c =
     let one = lending .before .before .before .before .reciprocal .ensures .reciprocal _ (lending .before .before .u .given .1) in
     let end = accepted-call (invertible _ _ _ _ _ h e _ one) e (λ (m : ℕ). inverseTable (s .n) m (now (s .a)))
     (inverted (s .n) (s .m) (now (s .a)) _ _ h e _ one
-    (result-taken (s .n) (lent lending) _ (made .kept .1 .1 .1 .1 .0) (made .ensures) (c .before .before .before .before .before .before .take-result .ensures)))
+    (result-taken (front (lent lending) (found (accepting lending))) _ (made .kept .1 .1 .1 .1 .0) (made .ensures) (c .before .before .before .before .before .before .take-result .ensures)))
     _ _ (front-cleared (lent lending) (le-refl _) (made .last .1 .1 .1 .1 .0) (made .kept .1 .1 .1 .1 .0) (c .before .before .clear .ensures)) in
     (end .0, (end .1 .0, ((λ z. is-inverse _ _ _ _ _ h e _ one (end .1 .0)), end .1 .1)))
 

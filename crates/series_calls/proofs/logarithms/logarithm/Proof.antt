@@ -9,7 +9,8 @@ use Rattle.theory.specs.Logarithm.{logarithmOf}
 use Rattle.checks.specs.Accepted.{Single}
 use Rattle.checks.specs.Answers.{accepted}
 use Rattle.checks.specs.Ends.{Lent, used-in, part-long, clear-fits, front-cleared, accepted-call, refused-call}
-use Rattle.composition_calls.specs.Cores.{started, ready, result-ready, result-taken}
+use Rattle.composition.specs.Results.{result-ready, result-taken}
+use Rattle.composition_calls.specs.Cores.{started, front, ready}
 use Rattle.series_calls.proofs.Logging.{is-logarithm}
 use Rattle.series_calls.proofs.logarithms.logarithm.Statement.{statement}
 use Rattle.series_calls.proofs.logarithms.logarithm.Tie as tie
@@ -52,7 +53,7 @@ take-result-requires c κs =
     let lending = at .before .before in
     let made = at .logarithm-table in
     let facts = found (lending .before .before) in
-    result-ready _ (lent lending) (made .last .1 .1 .1 .0) (made .kept .1 .1 .1 .0) (facts .range .few) _ (facts .result)
+    result-ready (front (lent lending) facts) (made .last .1 .1 .1 .0) (made .kept .1 .1 .1 .0) _ (facts .result)
 
 clear-requires : tie.Need-clear-requires
 clear-requires c κs =
@@ -79,7 +80,7 @@ returns c =
     let h = accepting .before .before .check-start .ensures in
     let e = accepting .modulus .given .1 in
     let end = accepted-call h e (λ (m : ℕ). logarithmOf (s .n) m (now (s .e)))
-    (result-taken (s .n) (lent lending) _ (made .kept .1 .1 .1 .0) (made .ensures) (c .before .before .before .before .before .before .take-result .ensures))
+    (result-taken (front (lent lending) (found (lending .before .before))) _ (made .kept .1 .1 .1 .0) (made .ensures) (c .before .before .before .before .before .before .take-result .ensures))
     _ _ (front-cleared (lent lending) (le-refl _) (made .last .1 .1 .1 .0) (made .kept .1 .1 .1 .0) (c .before .before .clear .ensures)) in
     (end .0, (end .1 .0, ((λ z. is-logarithm _ _ _ _ _ (accepted h e) (end .1 .0)), end .1 .1)))
 
