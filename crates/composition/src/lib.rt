@@ -78,6 +78,7 @@ pub fn composition_table(n: usize, modulus: Modulus, a: &[u32], f: &[u32], works
     ensures { λ _. ⌜ resultIn n (now (workspace .exit)) ≡ compositionTable n (modulus .value) (now (f .entry)) (now (a .entry)) ⌝ }
 {
     let start = rows_length(n);
+    // with no controls, table i is the row's entry i
     copy_entries(n + 1, f, &mut workspace[start..]);
     let mut k = 0;
     while k < n {
