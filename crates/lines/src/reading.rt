@@ -65,7 +65,7 @@ fn wide(x: u8) -> u32
     x as u32
 }
 
-// The number x with one more digit. What is no number reads as the largest, which is no residue.
+// The number x with one more digit. What is no number of 32 bits reads as the largest, which is no residue.
 fn with_digit(x: u32, byte: u8) -> u32 {
     if byte < b'0' {
         return 4294967295;
@@ -73,10 +73,11 @@ fn with_digit(x: u32, byte: u8) -> u32 {
     if b'9' < byte {
         return 4294967295;
     }
-    if 400000000 < x {
+    let longer = (x as u64) * 10 + (wide(byte - b'0') as u64);
+    if 4294967295 < longer {
         return 4294967295;
     }
-    x * 10 + wide(byte - b'0')
+    longer as u32
 }
 
 // The number that a text spells; 0 for none.
