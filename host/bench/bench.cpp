@@ -82,9 +82,9 @@ std::vector<Bench> benches() {
     std::vector<Bench> all;
     // A plain form that returns nothing stands for one that answers 0.
     auto add = [&](const char *call, const char *yardstick, auto library, auto plain, bool odd_only = false) {
-        auto answering = [plain](Data &d) -> u64 {
+        auto answering = [plain](Data &d) {
             if constexpr (std::is_void_v<decltype(plain(d))>) {
-                return plain(d), 0;
+                return plain(d), u64{0};
             } else {
                 return plain(d);
             }

@@ -29,26 +29,21 @@ struct Below31 {
     u32 residue(Total total) const { return static_cast<u32>(total % m); }
 };
 
-// The same for every m of 32 bits.
+// The same for every m of 32 bits, without a branch too.
 struct Below32 {
     u32 m;
     u64 two_64 = (~u64{0} % m + 1) % m;  // 2^64 modulo m
 
-    u32 add(u32 x, u32 y) const { return x + y - (x >= m - y ? m : 0); }
-    u32 subtract(u32 x, u32 y) const { return x - y + (x < y ? m : 0); }
+    u32 add(u32 x, u32 y) const { return x + y - (m & -u32{x >= m - y}); }
+    u32 subtract(u32 x, u32 y) const { return x - y + (m & -u32{x < y}); }
 
-    // A total is low + 2^64 carries.
-    struct Total {
-        u64 low, carries;
-    };
-    Total plus(Total total, u64 product) const {
-        u64 low = total.low + product;
-        return {low, total.carries + (low < product)};
-    }
-    Total plus(Total total, u64 product, u64 other) const { return plus(plus(total, product), other); }
+    // In two words, each carry at last counted as two_64.
+    using Total = unsigned __int128;
+    Total plus(Total total, u64 product) const { return total + product; }
+    Total plus(Total total, u64 product, u64 other) const { return total + product + other; }
     u32 residue(Total total) const {
-        u64 more = total.carries * two_64, sum = total.low + more;
-        return static_cast<u32>((sum < more ? sum + two_64 : sum) % m);
+        Total sum = static_cast<u64>(total) + (total >> 64) * two_64;
+        return static_cast<u32>((static_cast<u64>(sum) + static_cast<u64>(sum >> 64) * two_64) % m);
     }
 };
 

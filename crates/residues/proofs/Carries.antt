@@ -1,7 +1,7 @@
 -- Carries: what a sum in two words leaves modulo m, and that the last carry fits.
-use mathlib.Core.Path.{_≡_, refl, sym, _∙_, ap}
-use Prim.Native.Nat.{ℕ, zero, suc, _+_, _-_, _*_, _%_, _^_, _<_, _≤_}
-use native.Mathlib.Nat.{mod-add-mod, mul-comm, mul-le-mul, mod-lt}
+use mathlib.Core.Path.{_≡_, refl, sym, _∙_, ap, ap₂}
+use Prim.Native.Nat.{ℕ, _+_, _-_, _*_, _%_, _^_, _<_, _≤_}
+use native.Mathlib.Nat.{mod-add-mod, mul-comm, mul-le-mul, mod-lt, zero-mul, one-mul}
 use native.Mathlib.Omega.{arith}
 use Rattle.theory.specs.Remainders.{mod-add, mul-mod-l}
 use Rattle.residues.specs.Moduli.{Valid}
@@ -33,19 +33,24 @@ module _ (modulus : Modulus) (valid : Valid modulus) where
         omega arith
 
     module _ (low : ℕ) (sum : Wide) (summed : Summed low (carries * modulus .«two_64») sum) where
-      last-by : (k : ℕ) → sum .carry ≡ k → low < 2 ^ 64 → sum .low < 2 ^ 64 → sum .low + k * modulus .«two_64» < 2 ^ 64
-      last-by zero e l s = omega arith
-      last-by (suc zero) e l s = omega (arith, two-64-below, more-below)
-      last-by (suc (suc k)) e l s = let no : ⊥ = omega arith in absurd no
-
-      pub last-fits : low < 2 ^ 64 → sum .low < 2 ^ 64 → sum .low + sum .carry * modulus .«two_64» < 2 ^ 64
-      last-fits = last-by (sum .carry) refl
-
-      pub joined : (sum .low + sum .carry * modulus .«two_64») % modulus .value ≡ (low + 2 ^ 64 * carries) % modulus .value
-      joined =
+      joined : (k : ℕ) → sum .carry ≡ k → (sum .low + k * modulus .«two_64») % modulus .value ≡ (low + 2 ^ 64 * carries) % modulus .value
+      joined k e =
           let m = modulus .value in
-          ap (λ (y : ℕ). (sum .low + sum .carry * y) % m) (valid .two-64-is)
+          ap₂ (λ (x y : ℕ). (sum .low + x * y) % m) (sym e) (valid .two-64-is)
           ∙ carried m (sum .low) (sum .carry)
           ∙ ap (λ (y : ℕ). y % m) (summed .sum)
           ∙ ap (λ (y : ℕ). (low + carries * y) % m) (valid .two-64-is)
           ∙ carried m low carries
+
+      pub joined-all : sum .carry ≡ 0 → sum .low % modulus .value ≡ (low + 2 ^ 64 * carries) % modulus .value
+      joined-all e = ap (λ (x : ℕ). x % modulus .value) (omega (arith, zero-mul (modulus .«two_64»))) ∙ joined 0 e
+
+      -- a last one
+      module _ (one : sum .carry ≡ 0 → ⊥) where
+        pub last-fits : low < 2 ^ 64 → sum .low + modulus .«two_64» < 2 ^ 64
+        last-fits l = let e : sum .carry ≡ 1 = omega arith in omega (arith, two-64-below, more-below)
+
+        pub joined-last : (sum .low + modulus .«two_64») % modulus .value ≡ (low + 2 ^ 64 * carries) % modulus .value
+        joined-last =
+            let e : sum .carry ≡ 1 = omega arith in
+            ap (λ (x : ℕ). (sum .low + x) % modulus .value) (sym (one-mul (modulus .«two_64»))) ∙ joined 1 e

@@ -191,13 +191,17 @@ impl Accumulator {
         }
     }
 
-    // Each carry counts as the residue of 2 to the 64, and so does a last one that these bring.
+    // Each carry counts as the residue of 2 to the 64. A last one hardly ever comes, so that the branch is foreseen.
     pub fn residue(self, modulus: Modulus) -> u32
         requires { ⌜ Valid modulus ⌝ }
         ensures { λ r. ⌜ Residue (modulus .value) (held self) r ⌝ }
     {
         let more = (self.carries as u64) * modulus.two_64;
         let sum = Wide::sum(self.low, more);
-        modulus.reduce(sum.low + (sum.carry as u64) * modulus.two_64)
+        if sum.carry == 0 {
+            modulus.reduce(sum.low)
+        } else {
+            modulus.reduce(sum.low + modulus.two_64)
+        }
     }
 }

@@ -2,8 +2,7 @@ use native.Mathlib.Omega.{arith}
 use borrow.Author.Needs.{needs}
 use mathlib.Core.Path.{_∙_}
 use Rattle.residues.specs.Accumulated.{held}
-use Rattle.residues.proofs.Reduce.{product-fits}
-use Rattle.residues.proofs.Carries.{two-64-below, more-below, last-fits, joined}
+use Rattle.residues.proofs.Carries.{more-below, joined-all, last-fits, joined-last}
 use Rattle.residues.proofs.Accumulator.residue.Statement.{statement}
 use Rattle.residues.proofs.Accumulator.residue.Tie as tie
 
@@ -18,28 +17,30 @@ mul-more c =
 sum-requires : tie.Need-sum-requires
 sum-requires c κs = search needs
 
-cast-reduce : tie.Need-cast-reduce
-cast-reduce c = search needs
-
-mul-reduce : tie.Need-mul-reduce
-mul-reduce c = product-fits (omega arith) (omega (arith, two-64-below _ (c .before .before .before .before .before .pre)))
+reduce-requires : tie.Need-reduce-requires
+reduce-requires c κs = search needs
 
 add-reduce : tie.Need-add-reduce
 add-reduce c =
-    let s = c .before .before .before .before .before .before in
-    record { fits = last-fits _ (s .pre) (s .args .self .carries) (omega arith) (s .args .self .low) _ (c .before .before .before .sum .ensures) (omega arith) (omega arith) }
+    let s = c .before .before .before .before .before .before .before in
+    record { fits = last-fits _ (s .pre) _ (omega arith) _ _ (c .before .before .before .before .sum .ensures) (c .before .before .if1 .left) (omega arith) }
 
-reduce-requires : tie.Need-reduce-requires
-reduce-requires c κs = search needs
+reduce-requires-2 : tie.Need-reduce-requires-2
+reduce-requires-2 c κs = search needs
 
 returns : tie.Need-returns
 unfolding held
 returns c =
-    let s = c .before .before .before .before .before .before .before in
+    let s = c .before .before .before .before .before .before in
     let r = c .reduce .ensures in
-    record { same = r .same ∙ joined _ (s .pre) (s .args .self .carries) (omega arith) (s .args .self .low) _ (c .before .before .before .before .sum .ensures); below = r .below }
+    record { same = r .same ∙ joined-all _ (s .pre) _ (omega arith) _ _ (c .before .before .before .sum .ensures) (c .before .if1 .taken); below = r .below }
+
+returns-2 : tie.Need-returns-2
+unfolding held
+returns-2 c =
+    let s = c .before .before .before .before .before .before .before .before in
+    let r = c .reduce2 .ensures in
+    record { same = r .same ∙ joined-last _ (s .pre) _ (omega arith) _ _ (c .before .before .before .before .before .sum .ensures) (c .before .before .before .if1 .left); below = r .below }
 
 pub residue-spec : {M : Type 1} → statement M
-residue-spec =
-    tie.close
-    (tie.spec cast-more mul-more sum-requires cast-reduce mul-reduce add-reduce reduce-requires returns)
+residue-spec = tie.close (tie.spec cast-more mul-more sum-requires reduce-requires add-reduce reduce-requires-2 returns returns-2)
