@@ -162,22 +162,22 @@ double median(std::vector<double> &times) {
 }
 
 struct Times {
-    double library, plain;
+    double library, ratio;
 };
 
-// The medians of interleaved rounds.
+// The medians of interleaved rounds; the ratio is that of one round, since the machine's speed may change between rounds.
 Times measure(const Bench &bench, Data &d) {
     compare(bench, d);
     auto repeats = [&](const std::function<u64(Data &)> &call) {
         return 1 + static_cast<int>(SAMPLE_SECONDS / std::max(seconds(call, d, 1), 1e-8));
     };
     int library_repeats = repeats(bench.library), plain_repeats = repeats(bench.plain);
-    std::vector<double> library, plain;
+    std::vector<double> library, ratios;
     for (int round = 0; round < ROUNDS; round++) {
         library.push_back(seconds(bench.library, d, library_repeats));
-        plain.push_back(seconds(bench.plain, d, plain_repeats));
+        ratios.push_back(library.back() / seconds(bench.plain, d, plain_repeats));
     }
-    return {median(library), median(plain)};
+    return {median(library), median(ratios)};
 }
 
 // How far the measuring is, on the terminal only.
@@ -212,7 +212,7 @@ int main() {
     for (std::size_t i = 0; i < below_31.size(); i++) {
         for (auto &[m, times] : measured[i]) {
             std::printf("%-17s %-16s %-10u", below_31[i].call.c_str(), below_31[i].yardstick.c_str(), m);
-            for (u32 n : PANELS) std::printf(" %6.2f", times[n].library / times[n].plain);
+            for (u32 n : PANELS) std::printf(" %6.2f", times[n].ratio);
             std::printf("     %8.2f  %8.2f", times[14].library / times[12].library, times[16].library / times[14].library);
             std::printf("   %8.3f", times[16].library / measured[0][m][16].library);
             std::printf("  %8.3f\n", times[16].library * 1000);
