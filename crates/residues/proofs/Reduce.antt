@@ -1,4 +1,4 @@
--- How one comparison reduces a sum or a difference, and how large a product of two residues is.
+-- How one comparison reduces a sum or a difference, and that a product fits 64 bits.
 use mathlib.Core.Path.{_≡_, sym, _∙_, ap}
 use Prim.Native.Nat.{ℕ, _+_, _-_, _*_, _%_, _^_, _<_, _≤_}
 use native.Mathlib.Nat.{mod-eq-of-lt, mod-eq-sub-mod, mul-le-mul, mod-lt}

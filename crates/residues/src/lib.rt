@@ -1,5 +1,6 @@
 // Residues: numbers modulo m. The modulus with its limits, sum, difference and product of two residues, sums of products
-// that are divided once, and reciprocals. What bounds the numbers inside is seen in this crate alone.
+// that are divided once, and reciprocals. What bounds the numbers inside is seen in this crate alone, but for how many products
+// a sum may have.
 ghost use mathlib.Core.Path.{_≡_};
 ghost use Prim.Native.Nat.{_+_, _-_, _*_, _<_};
 ghost use Rattle.residues.specs.Moduli.{modulusOf, Valid, Below, Residue, Back};

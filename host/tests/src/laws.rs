@@ -4,7 +4,7 @@ use crate::calls::{assert_same, Call, Case};
 use crate::random::{Fill, Random};
 
 const PANELS: std::ops::RangeInclusive<u32> = 0..=16;
-const MODULI: [u32; 8] = [4_294_967_295, 4_294_967_294, 4_294_967_291, 2_147_483_647, 2, 3, 6, 30030];
+const MODULI: [u32; 8] = [4_294_967_295, 4_294_967_294, 4_294_967_291, 3_037_000_499, 2, 3, 6, 30030];
 
 /// The result of an accepted call.
 fn result(call: Call, n: u32, m: u32, inputs: &[&[u32]]) -> Vec<u32> {

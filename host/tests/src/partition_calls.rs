@@ -57,19 +57,19 @@ fn composition() {
     both(Call::Composition);
 }
 
-/// Euclid's coefficients near the largest modulus: first entries whose divisions go on longest (numbers of Fibonacci), small
-/// ones, ones near m and near its half, and any.
+/// Euclid's coefficients near the largest modulus: small first entries, ones near m, near its half and near m divided by the
+/// golden ratio, where divisions go on long, and any; and the two numbers of Fibonacci with the longest.
 #[test]
 fn inverse_of_first_entries_near_the_limit() {
     let random = &mut Random::new(32);
     for m in 4_294_967_280..=4_294_967_295 {
-        let near = (1..30).flat_map(|k| [k, m / 2 - 15 + k, m - k]);
-        let others = (0..200).map(|_| random.residue(m)).chain([2_971_215_073, 1_836_311_903, 65_535, 65_536, 65_537]);
-        for first in near.chain(others) {
+        let near = (1..30).flat_map(|k| [k, m / 2 - 15 + k, 2_654_435_769 - 15 + k, m - k]);
+        for first in near.chain((0..200).map(|_| random.residue(m))) {
             Call::Inverse.compare(&Case::new(Call::Inverse, 0, m, vec![vec![first]]));
             Call::Inverse.compare(&Case::new(Call::Inverse, 1, m, vec![vec![first, m - 1]]));
         }
     }
+    Call::Inverse.compare(&Case::new(Call::Inverse, 0, 2_971_215_073, vec![vec![1_836_311_903]]));
 }
 
 /// Panels and moduli at which partitions are too many to list.

@@ -23,7 +23,7 @@ fn small_panels() {
 fn larger_panels() {
     let random = &mut Random::new(5);
     for n in 9..=13 {
-        for m in [2, 4, 6, 30030, 2_147_483_647, 4_294_967_291, 4_294_967_294, 4_294_967_295] {
+        for m in [2, 4, 6, 30030, 2_147_483_647, 3_037_000_499, 4_294_967_291, 4_294_967_294, 4_294_967_295] {
             for fills in
                 [[Fill::Uniform; 2], [Fill::Largest; 2], [Fill::Sparse, Fill::Extremes], [Fill::Single, Fill::Uniform]]
             {
@@ -41,7 +41,7 @@ fn largest_panel() {
     for m in [4_294_967_291, 4_294_967_294, 4_294_967_295] {
         CALL.compare(&Case::filled(CALL, 16, m, [Fill::Largest; 2], random));
     }
-    for (m, fill) in [(4_294_967_295, Fill::Uniform), (2_147_483_647, Fill::Largest), (30030, Fill::Sparse)] {
+    for (m, fill) in [(4_294_967_295, Fill::Uniform), (3_037_000_499, Fill::Largest), (30030, Fill::Sparse)] {
         CALL.compare(&Case::filled(CALL, 16, m, [fill, Fill::Uniform], random));
     }
     for n in [14, 15] {

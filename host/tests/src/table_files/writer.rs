@@ -43,14 +43,12 @@ fn writer_of_all_panels() {
 #[test]
 fn writer_of_numbers_of_every_length() {
     let m = 4_294_967_295;
-    for bits in [7, 14, 21, 28, 32] {
-        let turn = 1u64 << bits;
-        for entry in [turn - 2, turn - 1, turn, turn + 1].map(|entry| entry.min(u64::from(m) - 1) as u32) {
-            let file = File { n: 0, m, entries: vec![entry] };
-            let length = file.bytes().len();
-            check_writer(&file, length, 0);
-            check_writer(&file, length - 1, 10);
-        }
+    let turns = [7, 14, 21, 28].map(|bits| 1 << bits);
+    for entry in turns.into_iter().flat_map(|turn| [turn - 2, turn - 1, turn, turn + 1]).chain([m - 1]) {
+        let file = File { n: 0, m, entries: vec![entry] };
+        let length = file.bytes().len();
+        check_writer(&file, length, 0);
+        check_writer(&file, length - 1, 10);
     }
 }
 
