@@ -20,7 +20,7 @@ namespace {
 using Table = std::vector<u32>;
 
 const u32 PANELS[] = {8, 12, 14, 16};
-const u32 MODULI[] = {998244353, 1000000006, 2147483647, 2147483646};
+const u32 MODULI[] = {998244353, 2147483647, 4294967291, 4294967294, 4294967295};
 const int ROUNDS = 9;
 const double SAMPLE_SECONDS = 0.03;  // calls are repeated until a sample takes about this long
 
@@ -74,16 +74,17 @@ auto with_duties(Product product) {
 #define RESULT TABLE(result)
 #define PAD TABLE(pad)
 #define PLAIN_PRODUCT(product) \
-    [](Data &d) { plain::product(d.n, d.m, d.a.data(), d.b.data(), d.plain_result.data(), d.work.data()); }
+    [](Data &d) { plain::By<Form>::product(d.n, d.m, d.a.data(), d.b.data(), d.plain_result.data(), d.work.data()); }
 
 // The subset product to its scalar form comes first: other calls are given in it.
+template <typename Form>
 std::vector<Bench> benches() {
     std::vector<Bench> all;
     // A plain form that returns nothing stands for one that answers 0.
     auto add = [&](const char *call, const char *yardstick, auto library, auto plain, bool odd_only = false) {
-        auto answering = [plain](Data &d) -> u64 {
+        auto answering = [plain](Data &d) {
             if constexpr (std::is_void_v<decltype(plain(d))>) {
-                return plain(d), 0;
+                return plain(d), u64{0};
             } else {
                 return plain(d);
             }
@@ -102,13 +103,13 @@ std::vector<Bench> benches() {
     add("subset product", "textbook", subset_number, PLAIN_PRODUCT(textbook_subset_product));
 
     add("exponential", "plain", [](Data &d) { return sps_exponential(d.n, d.m, TABLE(first_zero), RESULT, PAD); },
-        [](Data &d) { plain::exponential(d.n, d.m, d.first_zero.data(), d.plain_result.data(), d.work.data()); });
+        [](Data &d) { plain::By<Form>::exponential(d.n, d.m, d.first_zero.data(), d.plain_result.data(), d.work.data()); });
     add("composition", "plain", [](Data &d) { return sps_composition(d.n, d.m, TABLE(first_zero), TABLE(f), RESULT, PAD); },
-        [](Data &d) { plain::composition(d.n, d.m, d.first_zero.data(), d.f.data(), d.plain_result.data(), d.work.data()); });
+        [](Data &d) { plain::By<Form>::composition(d.n, d.m, d.first_zero.data(), d.f.data(), d.plain_result.data(), d.work.data()); });
     add("logarithm", "plain", [](Data &d) { return sps_logarithm(d.n, d.m, TABLE(first_one), RESULT, PAD); },
-        [](Data &d) { plain::logarithm(d.n, d.m, d.first_one.data(), d.plain_result.data(), d.work.data()); });
+        [](Data &d) { plain::By<Form>::logarithm(d.n, d.m, d.first_one.data(), d.plain_result.data(), d.work.data()); });
     add("inverse", "plain", [](Data &d) { return sps_inverse(d.n, d.m, TABLE(first_one), RESULT, PAD); },
-        [](Data &d) { plain::inverse(d.n, d.m, d.first_one.data(), d.plain_result.data(), d.work.data()); });
+        [](Data &d) { plain::By<Form>::inverse(d.n, d.m, d.first_one.data(), d.plain_result.data(), d.work.data()); });
 
     auto union_ = [](Data &d) { return sps_union_product(d.n, d.m, TABLE(a), TABLE(b), RESULT, PAD); };
     auto plain_union = PLAIN_PRODUCT(union_product);
@@ -120,9 +121,9 @@ std::vector<Bench> benches() {
     add("xor product", "plain + duties", xor_, with_duties(plain_xor), true);
 
     add("sum", "plain", [](Data &d) { return sps_sum(d.n, d.m, TABLE(a), TABLE(b), RESULT); },
-        [](Data &d) { plain::sum(d.n, d.m, d.a.data(), d.b.data(), d.plain_result.data()); });
+        [](Data &d) { plain::By<Form>::sum(d.n, d.m, d.a.data(), d.b.data(), d.plain_result.data()); });
     add("difference", "plain", [](Data &d) { return sps_difference(d.n, d.m, TABLE(a), TABLE(b), RESULT); },
-        [](Data &d) { plain::difference(d.n, d.m, d.a.data(), d.b.data(), d.plain_result.data()); });
+        [](Data &d) { plain::By<Form>::difference(d.n, d.m, d.a.data(), d.b.data(), d.plain_result.data()); });
     add("binomial product", "plain", [](Data &d) { return sps_binomial_product(d.n, d.m, TABLE(f), TABLE(g), TABLE(row)); },
         [](Data &d) { plain::binomial_product(d.n, d.m, d.f.data(), d.g.data(), d.plain_row.data()); });
     add("header check", "plain", [](Data &d) { return sps_header_check(d.file.data(), d.file_length); },
@@ -161,22 +162,22 @@ double median(std::vector<double> &times) {
 }
 
 struct Times {
-    double library, plain;
+    double library, ratio;
 };
 
-// The medians of interleaved rounds.
+// The medians of interleaved rounds; the ratio is that of one round, since the machine's speed may change between rounds.
 Times measure(const Bench &bench, Data &d) {
     compare(bench, d);
     auto repeats = [&](const std::function<u64(Data &)> &call) {
         return 1 + static_cast<int>(SAMPLE_SECONDS / std::max(seconds(call, d, 1), 1e-8));
     };
     int library_repeats = repeats(bench.library), plain_repeats = repeats(bench.plain);
-    std::vector<double> library, plain;
+    std::vector<double> library, ratios;
     for (int round = 0; round < ROUNDS; round++) {
         library.push_back(seconds(bench.library, d, library_repeats));
-        plain.push_back(seconds(bench.plain, d, plain_repeats));
+        ratios.push_back(library.back() / seconds(bench.plain, d, plain_repeats));
     }
-    return {median(library), median(plain)};
+    return {median(library), median(ratios)};
 }
 
 // How far the measuring is, on the terminal only.
@@ -187,13 +188,15 @@ void tell(std::size_t done, std::size_t total) {
 }  // namespace
 
 int main() {
-    std::vector<Bench> all = benches();
-    std::size_t done = 0, total = all.size() * std::size(MODULI) * std::size(PANELS);
-    std::vector<std::map<u32, std::map<u32, Times>>> measured(all.size());  // by modulus, then panel
+    // Which plain form is right under a modulus is settled here, before anything is measured.
+    const std::vector<Bench> below_31 = benches<plain::Below31>(), below_32 = benches<plain::Below32>();
+    std::size_t done = 0, total = below_31.size() * std::size(MODULI) * std::size(PANELS);
+    std::vector<std::map<u32, std::map<u32, Times>>> measured(below_31.size());  // by modulus, then panel
     for (u32 m : MODULI) {
+        const std::vector<Bench> &all = m < u32{1} << 31 ? below_31 : below_32;
         for (u32 n : PANELS) {
             Data d(n, m);
-            for (std::size_t i = 0; i < all.size(); i++) {
+            for (std::size_t i = 0; i < below_31.size(); i++) {
                 if (m % 2 == 1 || !all[i].odd_only) measured[i][m][n] = measure(all[i], d);
                 tell(++done, total);
             }
@@ -206,10 +209,10 @@ int main() {
     std::printf("%-44s library / yardstick at n =     library's growth   n = 16 in subset\n", "");
     std::printf("%-17s %-16s %-10s %6u %6u %6u %6u     12 to 14  14 to 16   products        ms\n",
                 "call", "yardstick", "modulus", 8, 12, 14, 16);
-    for (std::size_t i = 0; i < all.size(); i++) {
+    for (std::size_t i = 0; i < below_31.size(); i++) {
         for (auto &[m, times] : measured[i]) {
-            std::printf("%-17s %-16s %-10u", all[i].call.c_str(), all[i].yardstick.c_str(), m);
-            for (u32 n : PANELS) std::printf(" %6.2f", times[n].library / times[n].plain);
+            std::printf("%-17s %-16s %-10u", below_31[i].call.c_str(), below_31[i].yardstick.c_str(), m);
+            for (u32 n : PANELS) std::printf(" %6.2f", times[n].ratio);
             std::printf("     %8.2f  %8.2f", times[14].library / times[12].library, times[16].library / times[14].library);
             std::printf("   %8.3f", times[16].library / measured[0][m][16].library);
             std::printf("  %8.3f\n", times[16].library * 1000);

@@ -7,16 +7,45 @@ using u8 = std::uint8_t;
 using u32 = std::uint32_t;
 using u64 = std::uint64_t;
 
-// Without a branch: what went below 0 has its top bit set, as m is below 2^31, and gets m back.
-inline u32 back_up(u32 x, u32 m) { return x + (m & -(x >> 31)); }
-
-inline u32 add_mod(u32 x, u32 y, u32 m) { return back_up(x + y - m, m); }
-
-inline u32 sub_mod(u32 x, u32 y, u32 m) { return back_up(x - y, m); }
-
 inline u32 mul_mod(u32 x, u32 y, u32 m) { return static_cast<u32>(u64{x} * y % m); }
 
 namespace plain {
+
+// Sums, differences and sums of products modulo m, for m below 2^31.
+struct Below31 {
+    u32 m;
+    u64 top = (u64{1} << 63) / m * m;  // the largest multiple of m up to 2^63
+
+    // Without a branch: what went below 0 has its top bit set, and gets m back.
+    u32 back_up(u32 x) const { return x + (m & -(x >> 31)); }
+    u32 add(u32 x, u32 y) const { return back_up(x + y - m); }
+    u32 subtract(u32 x, u32 y) const { return back_up(x - y); }
+
+    // A total has room for two products before it is folded, below 2^63 + m again and without a branch.
+    using Total = u64;
+    Total fold(u64 sum) const { return sum - (sum >> 63) * top; }
+    Total plus(Total total, u64 product) const { return fold(total + product); }
+    Total plus(Total total, u64 product, u64 other) const { return fold(total + product + other); }
+    u32 residue(Total total) const { return static_cast<u32>(total % m); }
+};
+
+// The same for every m of 32 bits, without a branch too.
+struct Below32 {
+    u32 m;
+    u64 two_64 = (~u64{0} % m + 1) % m;  // 2^64 modulo m
+
+    u32 add(u32 x, u32 y) const { return x + y - (m & -u32{x >= m - y}); }
+    u32 subtract(u32 x, u32 y) const { return x - y + (m & -u32{x < y}); }
+
+    // In two words, each carry at last counted as two_64.
+    using Total = unsigned __int128;
+    Total plus(Total total, u64 product) const { return total + product; }
+    Total plus(Total total, u64 product, u64 other) const { return total + product + other; }
+    u32 residue(Total total) const {
+        Total sum = static_cast<u64>(total) + (total >> 64) * two_64;
+        return static_cast<u32>((static_cast<u64>(sum) + static_cast<u64>(sum >> 64) * two_64) % m);
+    }
+};
 
 // Work: 2 (n + 1) 2^n numbers, where it is asked for; no call clears it.
 
@@ -24,26 +53,31 @@ namespace plain {
 bool all_below(u32 n, u32 m, const u32 *table);
 u32 ceiling(u32 n, const u32 *table);
 
-// The ranked recursion of source document 001, with its ranges: tuned, without branches in the inner loops ("scalar").
-void subset_product(u32 n, u32 m, const u32 *a, const u32 *b, u32 *result, u32 *work);
-// Zeta transform of each rank over the whole table, one remainder for each product ("textbook").
-void textbook_subset_product(u32 n, u32 m, const u32 *a, const u32 *b, u32 *result, u32 *work);
-
-// By recursion on halves, over the scalar subset product.
-void exponential(u32 n, u32 m, const u32 *a, u32 *result, u32 *work);
-void composition(u32 n, u32 m, const u32 *a, const u32 *f, u32 *result, u32 *work);
-void logarithm(u32 n, u32 m, const u32 *a, u32 *result, u32 *work);
-void inverse(u32 n, u32 m, const u32 *a, u32 *result, u32 *work);
-
-void sum(u32 n, u32 m, const u32 *a, const u32 *b, u32 *result);
-void difference(u32 n, u32 m, const u32 *a, const u32 *b, u32 *result);
-void union_product(u32 n, u32 m, const u32 *a, const u32 *b, u32 *result, u32 *work);
-void xor_product(u32 n, u32 m, const u32 *a, const u32 *b, u32 *result, u32 *work);
 void binomial_product(u32 n, u32 m, const u32 *f, const u32 *g, u32 *result);
 
 // Each answers what the library's function of the same name does, of files that are in order.
 u64 header_check(const u8 *bytes, std::size_t length);
 u64 read_table(const u8 *bytes, std::size_t length, u32 *table);
 u64 write_table(u32 n, u32 m, const u32 *table, u8 *buffer);
+
+// By one of the two forms above.
+template <typename Form>
+struct By {
+    // The ranked recursion of source document 001, with its ranges: tuned, without branches in the inner loops ("scalar").
+    static void subset_product(u32 n, u32 m, const u32 *a, const u32 *b, u32 *result, u32 *work);
+    // Zeta transform of each rank over the whole table, one remainder for each product ("textbook").
+    static void textbook_subset_product(u32 n, u32 m, const u32 *a, const u32 *b, u32 *result, u32 *work);
+
+    // By recursion on halves, over the scalar subset product.
+    static void exponential(u32 n, u32 m, const u32 *a, u32 *result, u32 *work);
+    static void composition(u32 n, u32 m, const u32 *a, const u32 *f, u32 *result, u32 *work);
+    static void logarithm(u32 n, u32 m, const u32 *a, u32 *result, u32 *work);
+    static void inverse(u32 n, u32 m, const u32 *a, u32 *result, u32 *work);
+
+    static void sum(u32 n, u32 m, const u32 *a, const u32 *b, u32 *result);
+    static void difference(u32 n, u32 m, const u32 *a, const u32 *b, u32 *result);
+    static void union_product(u32 n, u32 m, const u32 *a, const u32 *b, u32 *result, u32 *work);
+    static void xor_product(u32 n, u32 m, const u32 *a, const u32 *b, u32 *result, u32 *work);
+};
 
 }  // namespace plain

@@ -9,12 +9,16 @@ bool plain::all_below(u32 n, u32 m, const u32 *table) {
     return below;
 }
 
-void plain::sum(u32 n, u32 m, const u32 *a, const u32 *b, u32 *result) {
-    for (std::size_t i = 0; i < std::size_t{1} << n; i++) result[i] = add_mod(a[i], b[i], m);
+template <typename Form>
+void plain::By<Form>::sum(u32 n, u32 m, const u32 *a, const u32 *b, u32 *result) {
+    const Form form{m};
+    for (std::size_t i = 0; i < std::size_t{1} << n; i++) result[i] = form.add(a[i], b[i]);
 }
 
-void plain::difference(u32 n, u32 m, const u32 *a, const u32 *b, u32 *result) {
-    for (std::size_t i = 0; i < std::size_t{1} << n; i++) result[i] = sub_mod(a[i], b[i], m);
+template <typename Form>
+void plain::By<Form>::difference(u32 n, u32 m, const u32 *a, const u32 *b, u32 *result) {
+    const Form form{m};
+    for (std::size_t i = 0; i < std::size_t{1} << n; i++) result[i] = form.subtract(a[i], b[i]);
 }
 
 // Shows `change` the entries without and with each control in turn.
@@ -39,17 +43,21 @@ static void transformed_product(u32 n, u32 m, const u32 *a, const u32 *b, u32 *r
     for_each_control(n, result, back);
 }
 
-void plain::union_product(u32 n, u32 m, const u32 *a, const u32 *b, u32 *result, u32 *work) {
-    auto zeta = [m](u32 &without, u32 &with) { with = add_mod(with, without, m); };
-    auto moebius = [m](u32 &without, u32 &with) { with = sub_mod(with, without, m); };
+template <typename Form>
+void plain::By<Form>::union_product(u32 n, u32 m, const u32 *a, const u32 *b, u32 *result, u32 *work) {
+    const Form form{m};
+    auto zeta = [form](u32 &without, u32 &with) { with = form.add(with, without); };
+    auto moebius = [form](u32 &without, u32 &with) { with = form.subtract(with, without); };
     transformed_product(n, m, a, b, result, work, zeta, moebius);
 }
 
-void plain::xor_product(u32 n, u32 m, const u32 *a, const u32 *b, u32 *result, u32 *work) {
-    auto butterfly = [m](u32 &without, u32 &with) {
+template <typename Form>
+void plain::By<Form>::xor_product(u32 n, u32 m, const u32 *a, const u32 *b, u32 *result, u32 *work) {
+    const Form form{m};
+    auto butterfly = [form](u32 &without, u32 &with) {
         u32 x = without, y = with;
-        without = add_mod(x, y, m);
-        with = sub_mod(x, y, m);
+        without = form.add(x, y);
+        with = form.subtract(x, y);
     };
     transformed_product(n, m, a, b, result, work, butterfly, butterfly);
     u32 scale = 1;
@@ -99,3 +107,6 @@ u64 plain::write_table(u32 n, u32 m, const u32 *table, u8 *buffer) {
     for (std::size_t i = 0; i < std::size_t{1} << n; i++) put_number(at, table[i]);
     return static_cast<u64>(at - buffer) << 32;
 }
+
+template struct plain::By<plain::Below31>;
+template struct plain::By<plain::Below32>;

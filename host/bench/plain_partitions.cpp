@@ -5,7 +5,8 @@
 #include <utility>
 #include <vector>
 
-void plain::exponential(u32 n, u32 m, const u32 *a, u32 *result, u32 *work) {
+template <typename Form>
+void plain::By<Form>::exponential(u32 n, u32 m, const u32 *a, u32 *result, u32 *work) {
     result[0] = 1;
     for (u32 q = 0; q < n; q++) {
         std::size_t half = std::size_t{1} << q;
@@ -14,7 +15,8 @@ void plain::exponential(u32 n, u32 m, const u32 *a, u32 *result, u32 *work) {
 }
 
 // At level k the compositions of a's first 2^k entries with f and its shifts stand side by side in the result.
-void plain::composition(u32 n, u32 m, const u32 *a, const u32 *f, u32 *result, u32 *work) {
+template <typename Form>
+void plain::By<Form>::composition(u32 n, u32 m, const u32 *a, const u32 *f, u32 *result, u32 *work) {
     std::copy(f, f + n + 1, result);
     for (u32 k = 0; k < n; k++) {
         std::size_t size = std::size_t{1} << k;
@@ -27,7 +29,8 @@ void plain::composition(u32 n, u32 m, const u32 *a, const u32 *f, u32 *result, u
 }
 
 // (0, 1, -1!, 2!, -3!, ..)
-void plain::logarithm(u32 n, u32 m, const u32 *a, u32 *result, u32 *work) {
+template <typename Form>
+void plain::By<Form>::logarithm(u32 n, u32 m, const u32 *a, u32 *result, u32 *work) {
     std::vector<u32> f(n + 1, 0);
     for (u32 k = 1; k <= n; k++) f[k] = k == 1 ? 1 : mul_mod(m - (k - 1) % m, f[k - 1], m);
     composition(n, m, a, f.data(), result, work);
@@ -44,8 +47,12 @@ static u32 reciprocal(u32 u, u32 m) {
 }
 
 // (u, -u^2, 2! u^3, -3! u^4, ..) with u the reciprocal of the first entry
-void plain::inverse(u32 n, u32 m, const u32 *a, u32 *result, u32 *work) {
+template <typename Form>
+void plain::By<Form>::inverse(u32 n, u32 m, const u32 *a, u32 *result, u32 *work) {
     std::vector<u32> f(n + 1, reciprocal(a[0], m));
     for (u32 k = 1; k <= n; k++) f[k] = mul_mod(mul_mod(m - k % m, f[0], m), f[k - 1], m);
     composition(n, m, a, f.data(), result, work);
 }
+
+template struct plain::By<plain::Below31>;
+template struct plain::By<plain::Below32>;

@@ -13,21 +13,19 @@ const struct Sizes {
 } sizes;
 
 // Row u of each factor has w = n + 1 ranks; a's rows hold the result on the way up.
+template <typename Form>
 struct Ranked {
-    u32 n, m;
-    u64 top;  // the largest multiple of m up to 2^63
+    u32 n;
+    Form form;
     std::size_t w;
 
-    // Below 2^63 + m again, without a branch.
-    u64 fold(u64 sum) const { return sum - (sum >> 63) * top; }
-
-    // Rank d + e of the product of two rows; the sum has room for two products before it is folded.
+    // Rank d + e of the product of two rows.
     u32 coefficient(const u32 *a, const u32 *b, u32 d, u32 e) const {
-        u64 sum = 0;
+        typename Form::Total total{};
         u32 i = e, j = d;
-        for (; i < d; i += 2, j -= 2) sum = fold(sum + u64{a[i]} * b[j] + u64{a[i + 1]} * b[j - 1]);
-        if (i == d) sum = fold(sum + u64{a[i]} * b[j]);
-        return static_cast<u32>(sum % m);
+        for (; i < d; i += 2, j -= 2) total = form.plus(total, u64{a[i]} * b[j], u64{a[i + 1]} * b[j - 1]);
+        if (i == d) total = form.plus(total, u64{a[i]} * b[j]);
+        return form.residue(total);
     }
 
     // From the top rank down, as rank d of a is a factor of every coefficient.
@@ -40,7 +38,7 @@ struct Ranked {
             const u32 *lower = p + u * w + sizes.of[u];
             u32 *upper = p + (half + u) * w + sizes.of[u];
             upper[0] = lower[0];
-            for (u32 k = 1; k <= d; k++) upper[k] = add_mod(upper[k], lower[k], m);
+            for (u32 k = 1; k <= d; k++) upper[k] = form.add(upper[k], lower[k]);
         }
     }
 
@@ -49,7 +47,7 @@ struct Ranked {
             u32 size = sizes.of[u] + d, count = std::min(n - left - d, size);
             const u32 *lower = p + u * w + size;
             u32 *upper = p + (half + u) * w + size;
-            for (u32 k = 1; k <= count; k++) upper[k] = sub_mod(upper[k], lower[k], m);
+            for (u32 k = 1; k <= count; k++) upper[k] = form.subtract(upper[k], lower[k]);
         }
     }
 
@@ -75,40 +73,45 @@ u32 plain::ceiling(u32 n, const u32 *table) {
     return largest;
 }
 
-void plain::subset_product(u32 n, u32 m, const u32 *a, const u32 *b, u32 *result, u32 *work) {
+template <typename Form>
+void plain::By<Form>::subset_product(u32 n, u32 m, const u32 *a, const u32 *b, u32 *result, u32 *work) {
     const std::size_t entries = std::size_t{1} << n, w = n + 1;
     u32 *rows_a = work, *rows_b = work + entries * w;
     for (std::size_t set = 0; set < entries; set++) {
         rows_a[set * w + sizes.of[set]] = a[set];
         rows_b[set * w + sizes.of[set]] = b[set];
     }
-    Ranked{n, m, (u64{1} << 63) / m * m, w}.recurse(rows_a, rows_b, n, 0);
+    Ranked<Form>{n, Form{m}, w}.recurse(rows_a, rows_b, n, 0);
     for (std::size_t set = 0; set < entries; set++) result[set] = rows_a[set * w + sizes.of[set]];
 }
 
 namespace {
 
 // The sums over all subsets, for each rank by itself.
-void zeta(u32 n, u32 m, u32 *table) {
+template <typename Form>
+void zeta(u32 n, Form form, u32 *table) {
     for (u32 i = 0; i < n; i++) {
         for (std::size_t set = 0; set < std::size_t{1} << n; set++) {
-            if (set >> i & 1) table[set] = add_mod(table[set], table[set ^ std::size_t{1} << i], m);
+            if (set >> i & 1) table[set] = form.add(table[set], table[set ^ std::size_t{1} << i]);
         }
     }
 }
 
-void moebius(u32 n, u32 m, u32 *table) {
+template <typename Form>
+void moebius(u32 n, Form form, u32 *table) {
     for (u32 i = 0; i < n; i++) {
         for (std::size_t set = 0; set < std::size_t{1} << n; set++) {
-            if (set >> i & 1) table[set] = sub_mod(table[set], table[set ^ std::size_t{1} << i], m);
+            if (set >> i & 1) table[set] = form.subtract(table[set], table[set ^ std::size_t{1} << i]);
         }
     }
 }
 
 }  // namespace
 
-void plain::textbook_subset_product(u32 n, u32 m, const u32 *a, const u32 *b, u32 *result, u32 *work) {
+template <typename Form>
+void plain::By<Form>::textbook_subset_product(u32 n, u32 m, const u32 *a, const u32 *b, u32 *result, u32 *work) {
     const std::size_t entries = std::size_t{1} << n;
+    const Form form{m};
     u32 *ranks_a = work, *ranks_b = work + entries * (n + 1);
     std::fill(work, work + 2 * entries * (n + 1), 0);
     for (std::size_t set = 0; set < entries; set++) {
@@ -116,8 +119,8 @@ void plain::textbook_subset_product(u32 n, u32 m, const u32 *a, const u32 *b, u3
         ranks_b[sizes.of[set] * entries + set] = b[set];
     }
     for (u32 k = 0; k <= n; k++) {
-        zeta(n, m, ranks_a + k * entries);
-        zeta(n, m, ranks_b + k * entries);
+        zeta(n, form, ranks_a + k * entries);
+        zeta(n, form, ranks_b + k * entries);
     }
     for (std::size_t set = 0; set < entries; set++) {
         for (u32 k = n + 1; k-- > 0;) {
@@ -126,6 +129,9 @@ void plain::textbook_subset_product(u32 n, u32 m, const u32 *a, const u32 *b, u3
             ranks_a[k * entries + set] = static_cast<u32>(sum % m);
         }
     }
-    for (u32 k = 0; k <= n; k++) moebius(n, m, ranks_a + k * entries);
+    for (u32 k = 0; k <= n; k++) moebius(n, form, ranks_a + k * entries);
     for (std::size_t set = 0; set < entries; set++) result[set] = ranks_a[sizes.of[set] * entries + set];
 }
+
+template struct plain::By<plain::Below31>;
+template struct plain::By<plain::Below32>;

@@ -55,7 +55,7 @@ static void count_sessions(uint32_t n, uint32_t m) {
 }
 
 static void show_sessions(uint32_t n, uint32_t m) {
-    const uint32_t others[] = {998244353, 1000000006, 2147483647};
+    const uint32_t others[] = {998244353, 1000000006, 4294967295};
     printf("sessions of the whole panel:\n");
     count_sessions(n, m);
     for (size_t i = 0; i < sizeof others / sizeof *others; i++) {

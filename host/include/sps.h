@@ -24,7 +24,7 @@
 enum {
     SPS_ACCEPTED = 0,
     SPS_PANEL = 1,    /* n above 16 */
-    SPS_MODULUS = 2,  /* m below 2 or above 2147483647 */
+    SPS_MODULUS = 2,  /* m below 2; above 4294967295 no uint32_t is */
     SPS_LENGTH = 3,   /* a table not of 2^n entries or a row not of n + 1, input or result */
     SPS_PAD = 4,      /* a pad shorter than SPS_PAD_LENGTH(n) */
     SPS_ENTRY = 5,    /* an input entry not below m */
@@ -37,7 +37,7 @@ enum {
 
 #define SPS_MOST_CONTROLS 16
 #define SPS_LOWEST_MODULUS 2u
-#define SPS_LARGEST_MODULUS 2147483647u
+#define SPS_LARGEST_MODULUS 4294967295u
 #define SPS_TABLE_LENGTH(n) ((size_t)1 << (n))
 #define SPS_PAD_LENGTH(n) ((2 * (size_t)(n) + 4) << (n))
 

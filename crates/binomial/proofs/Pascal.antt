@@ -13,11 +13,8 @@ use Rattle.definitions.specs.Rows.{choose, binomialSum}
 use Rattle.theory.specs.Tests.{below-or}
 use Rattle.theory.specs.Lists.{filled, length-tabulate, at-tabulate, tabulate-ext, tabulate-of}
 use Rattle.theory.specs.Remainders.{mod-add, mod-mul, mul-mod-l}
-use Rattle.theory.specs.Sums.{sum-last, sum-mod}
+use Rattle.theory.specs.Sums.{sum-mod}
 use Rattle.theory.specs.Binomial.{choose-none, choose-zero, choose-step}
-use Rattle.residues.specs.Accumulated.{Holds, Started, Added, holds-start, holds-added}
-use Rattle.residues.specs.declared.Modulus.{Modulus}
-use Rattle.residues.specs.declared.Accumulator.{Accumulator}
 use Rattle.checks.specs.Accepted.{Entries}
 use Rattle.binomial.specs.Rules.{rowWidth, pascalRow, pascalAt, termAt, binomialAt}
 
@@ -86,15 +83,6 @@ module _ (m : ℕ) where
 
 abbrev pub reducedAt : ℕ → List ℕ → List ℕ → List ℕ → ℕ → ℕ → ℕ
 reducedAt m choices f g i j = at choices j * (at f j * at g (i - j) % m)
-
-pub holds-none : {acc : Accumulator} (modulus : Modulus) (term : ℕ → ℕ) → Started acc → Holds modulus (sum 0 term) acc
-unfolding sum
-holds-none modulus term h = holds-start modulus h
-
-pub one-more : {acc r : Accumulator} {x : ℕ} (modulus : Modulus) (term : ℕ → ℕ) {j : ℕ} → Holds modulus (sum j term) acc →
-    Added modulus acc x r → x ≡ term j → Holds modulus (sum (j + 1) term) r
-one-more modulus term {j} h add e =
-    rw (add-one j, sum-last j term, ← e) (holds-added h add)
 
 pub unreduced : (m : ℕ) (choices f g : List ℕ) (i : ℕ) →
     sum (suc i) (reducedAt m choices f g i) % m ≡ sum (suc i) (termAt choices f g i) % m

@@ -40,7 +40,7 @@ fn binomial_entry(modulus: Modulus, choices: &[u32; 17], f: &[u32], g: &[u32], i
     let mut j = 0;
     while j <= i {
         let product = modulus.multiply(f[j], g[i - j]);
-        total = total.add_product(modulus, choices[j], product);
+        total = total.add_product(choices[j], product);
         j += 1;
     }
     total.residue(modulus)

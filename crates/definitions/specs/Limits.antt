@@ -13,7 +13,7 @@ abbrev pub lowestModulus : ℕ
 lowestModulus = 2
 
 abbrev pub largestModulus : ℕ
-largestModulus = 2147483647
+largestModulus = 4294967295
 
 -- 01's W: how many entries of a pad a call uses
 unfoldable pub padLength : ℕ → ℕ

@@ -31,7 +31,7 @@ firstWord (k ∷ ks) = orElse k (firstWord ks)
 abbrev pub panelWord : ℕ → ℕ
 panelWord n = wordIf (ltb mostControls n) 1
 
--- 2, modulus: m below 2 or above 2147483647
+-- 2, modulus: m below 2 or above 4294967295
 abbrev pub modulusWord : ℕ → ℕ
 modulusWord m = orElse (wordIf (ltb m lowestModulus) 2) (wordIf (ltb largestModulus m) 2)
 

@@ -3,7 +3,8 @@
 //
 //     name|call|n|m|first table|second table or row|length of the result|length of the pad|what it is compared with
 //
-// A table is random: its length, the most controls of a set with an entry, a seed and the first entry.
+// A table is random: its length, the most controls of a set with an entry, a seed and the first entry. Seed 0 makes every
+// entry m - 1.
 // Printed is how many entries differ, the number that the call returned and what it left in its pad. Results and pads are
 // lent full of the largest number.
 mod compare;

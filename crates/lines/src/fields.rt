@@ -3,6 +3,7 @@
 use crate::reading::length_in;
 use crate::reading::part;
 use crate::reading::value;
+use crate::reading::value_or;
 
 // The first byte of a word.
 pub fn initial(line: &[u8], k: usize) -> u8 {
@@ -22,8 +23,9 @@ pub fn controls(line: &[u8]) -> u32 {
     value(part(line, b'|', 2))
 }
 
+// What is no number reads as 0, which is no modulus.
 pub fn modulus(line: &[u8]) -> u32 {
-    value(part(line, b'|', 3))
+    value_or(part(line, b'|', 3), 0)
 }
 
 pub fn first_list(line: &[u8]) -> &[u8] {

@@ -59,28 +59,31 @@ pub fn part(text: &[u8], mark: u8, k: usize) -> &[u8] {
     &text[from..to]
 }
 
-fn wide(x: u8) -> u32
+fn wide(x: u8) -> u64
     ensures { λ r. ⌜ r ≡ x ⌝ }
 {
-    x as u32
+    x as u64
 }
 
-// The number x with one more digit. What is no number reads as the largest, which is no residue.
-fn with_digit(x: u32, byte: u8) -> u32 {
+// What stands for no number of 32 bits.
+const NO_NUMBER: u64 = 4294967296;
+
+// The number x with one more digit.
+fn with_digit(x: u64, byte: u8) -> u64 {
     if byte < b'0' {
-        return 4294967295;
+        return NO_NUMBER;
     }
     if b'9' < byte {
-        return 4294967295;
+        return NO_NUMBER;
     }
-    if 400000000 < x {
-        return 4294967295;
+    if NO_NUMBER <= x {
+        return NO_NUMBER;
     }
     x * 10 + wide(byte - b'0')
 }
 
 // The number that a text spells; 0 for none.
-pub fn value(text: &[u8]) -> u32 {
+fn spelled(text: &[u8]) -> u64 {
     let mut x = 0;
     let mut i = 0;
     while i < text.len() {
@@ -88,6 +91,17 @@ pub fn value(text: &[u8]) -> u32 {
         i += 1;
     }
     x
+}
+
+// The same, or another where it is no number of 32 bits.
+pub fn value_or(text: &[u8], other: u32) -> u32 {
+    let x = spelled(text);
+    if x < NO_NUMBER { x as u32 } else { other }
+}
+
+// What is no number reads as the largest, which is no residue.
+pub fn value(text: &[u8]) -> u32 {
+    value_or(text, 4294967295)
 }
 
 fn size(x: u32) -> usize {

@@ -35,6 +35,11 @@ pub fn plus(x: u32, y: u32, m: u32) -> u32 {
     remainder(wide(x) + wide(y), m)
 }
 
+// m - 1; 0 for m = 0.
+pub fn largest_residue(m: u32) -> u32 {
+    if m == 0 { 0 } else { m - 1 }
+}
+
 // The largest size of a set with a nonzero entry.
 pub fn ceiling(a: &[u32]) -> u32 {
     let mut found: u32 = 0;

@@ -1,4 +1,5 @@
 // Tables that look random.
+use crate::numbers::largest_residue;
 use crate::numbers::set_entry;
 use crate::numbers::times;
 
@@ -7,15 +8,25 @@ fn kept(x: u32, s: usize, most: u32) -> u32 {
     if most < usize::count_ones(s) { 0 } else { x }
 }
 
-// Fills a slice with residues that look random, and 0 at sets with more controls than that. The generator's states are powers
-// modulo 2147483647, which would make an entry a product over the controls of its set; the xor breaks that up.
+// The generator's states are powers modulo 2147483647, which would make an entry a product over the controls of its set; the
+// xor breaks that up, and the factor after it makes residues of every size. No state but 0 comes to 0, which makes the
+// largest residue.
+fn residue(state: u32, m: u32) -> u32 {
+    if state == 0 {
+        largest_residue(m)
+    } else {
+        times(state ^ 1431655765, 48271, m)
+    }
+}
+
+// Fills a slice with residues that look random, or for the seed 0 with the largest one; and 0 at sets with more controls than
+// that.
 fn fill(a: &mut [u32], most: u32, seed: u32, m: u32) {
     let mut state = seed;
     let mut s = 0;
     while s < a.len() {
         state = times(state, 48271, 2147483647);
-        let x = times(state ^ 1431655765, 1, m);
-        a[s] = kept(x, s, most);
+        a[s] = kept(residue(state, m), s, most);
         s += 1;
     }
 }

@@ -6,7 +6,7 @@ ghost use mathlib.Core.Path.{_≡_};
 ghost use Prim.Native.Nat.{_+_, _-_, _*_, _^_, _<_, _≤_, min};
 ghost use Rattle.definitions.specs.Sets.{size};
 ghost use Rattle.residues.specs.Moduli.{Valid, Residue};
-ghost use Rattle.ranked_theory.specs.Rows.{Added, Subtracted, RowStep, RowReady, RowsStep, RowsReady, backFrom, backCount, coefficient, RanksBelow, RowOfResidues, Multiplied};
+ghost use Rattle.ranked_theory.specs.Rows.{Added, Subtracted, RowStep, RowReady, RowsStep, RowsReady, backFrom, backCount, coefficient, RanksWithin, WholeRow, Multiplied};
 ghost use Rattle.ranked_theory.specs.Layout.{width, rowsLength, place, resultPlace};
 pub use pads::power_of_two;
 use ranked_runs::add_run;
@@ -135,7 +135,7 @@ pub fn subtract_lower(
 fn product_rank(modulus: Modulus, d: SetSize, e: SetSize, row: &[u32]) -> u32
     requires { ⌜ Valid modulus ⌝ }
     requires { ⌜ e .0 ≤ d .0 ⌝ }
-    requires { ⌜ RanksBelow (modulus .value) (d .0 - e .0) (now row) ⌝ }
+    requires { ⌜ RanksWithin (d .0 - e .0) (now row) ⌝ }
     ensures { λ r. ⌜ Residue (modulus .value) (coefficient (d .0 - e .0) (now (row .entry))) r ⌝ }
 {
     let top = d.0 - e.0;
@@ -146,20 +146,14 @@ fn product_rank(modulus: Modulus, d: SetSize, e: SetSize, row: &[u32]) -> u32
         let right = 2 * j + 1;
         let left_next = left - 2;
         let right_next = right + 2;
-        total = total.add_products(
-            modulus,
-            row[left],
-            row[right],
-            row[left_next],
-            row[right_next],
-        );
+        total = total
+            .add_product(row[left], row[right])
+            .add_product(row[left_next], row[right_next]);
         j += 2;
     }
     if j == top {
         let right = 2 * j + 1;
-        total
-            .add_product(modulus, row[0], row[right])
-            .residue(modulus)
+        total.add_product(row[0], row[right]).residue(modulus)
     } else {
         total.residue(modulus)
     }
@@ -169,7 +163,7 @@ fn product_rank(modulus: Modulus, d: SetSize, e: SetSize, row: &[u32]) -> u32
 // The rank below d counts for nothing, but step 2 goes on to take it.
 pub fn multiply_row(n: usize, modulus: Modulus, d: SetSize, row: &mut [u32])
     requires { ⌜ Valid modulus ⌝ }
-    requires { ⌜ RowOfResidues (modulus .value) n (d .0) (now row) ⌝ }
+    requires { ⌜ WholeRow n (d .0) (now row) ⌝ }
     ensures { λ _. ⌜ Multiplied (modulus .value) n (d .0) (now (row .entry)) (now (row .exit)) ⌝ }
 {
     let more = lesser(SetSize(n - d.0), d);

@@ -19,7 +19,7 @@ use Rattle.theory.specs.Remainders.{mod-mul, mod-sub}
 use Rattle.theory.specs.Codes.{by-top, size-top}
 use Rattle.ranked_theory.specs.Convolution.{conv, conv-window}
 use Rattle.ranked_theory.specs.Cover.{cover, both, cover-low, cover-both, cover-upto, no-control, Ranks, ranks-low, ranks-both}
-use Rattle.ranked_theory.specs.Rows.{plus, minus, Added, Subtracted, RowsStep, RowsReady, backFrom, backCount, RowOfResidues, Multiplied}
+use Rattle.ranked_theory.specs.Rows.{plus, minus, Added, Subtracted, RowsStep, RowsReady, backFrom, backCount, WholeRow, Multiplied}
 use Rattle.ranked_theory.specs.Layout.{width}
 use Rattle.ranked_theory.specs.Recursion.{Ready, Factor, Worked}
 use Rattle.ranked_theory.specs.Places.{row-in}
@@ -261,13 +261,12 @@ module _ (m n d : ℕ) (xs : List ℕ) (ready : Ready m n 0 d xs) where
   only : (u : ℕ) → u < 2 ^ 0 → (r : ℕ) → u * width n + r ≡ r
   only u lu r = ap (λ (v : ℕ). v * width n + r) (lt-one lu) ∙ ap (λ (v : ℕ). v + r) (zero-mul (width n)) ∙ zero-add r
 
-  pub leaf-row : RowOfResidues m n d xs
+  pub leaf-row : WholeRow n d xs
   leaf-row =
       record {
         few = ready .few;
         deep = omega (arith, ready .room);
         long = omega (arith, ready .long, one-mul (width n));
-        below = λ j h. subst (λ (i : ℕ). at xs i < m) (only 0 (omega arith) j) (ready .filled 0 j (omega arith) h);
       }
 
   module _ (pos : 0 < m) (ys : List ℕ) (made : Multiplied m n d xs ys) where

@@ -119,17 +119,16 @@ coefficientCount n d = min (n - d) d + 1
 abbrev pub coefficient : ℕ → List ℕ → ℕ
 coefficient t xs = sum (t + 1) (λ j. at xs (2 * (t - j)) * at xs (2 * j + 1))
 
--- the ranks that such a coefficient takes are residues
-pub record RanksBelow (m t : ℕ) (xs : List ℕ) : Type 0 where
+-- the row has the ranks that such a coefficient takes
+pub record RanksWithin (t : ℕ) (xs : List ℕ) : Type 0 where
   pub few : t ≤ 16
   pub long : 2 * t + 2 ≤ length xs
-  pub below : (j : ℕ) → j < 2 * t + 2 → at xs j < m
 
-pub record RowOfResidues (m n d : ℕ) (xs : List ℕ) : Type 0 where
+-- a row of a set of d controls
+pub record WholeRow (n d : ℕ) (xs : List ℕ) : Type 0 where
   pub few : n ≤ 16
   pub deep : d ≤ n
   pub long : 2 * n + 2 ≤ length xs
-  pub below : (j : ℕ) → j < 2 * d + 2 → at xs j < m
 
 -- Step (3). Step (2) goes on to take the rank below d too, which counts for nothing: it is left a residue.
 pub record Multiplied (m n d : ℕ) (xs ys : List ℕ) : Type 0 where

@@ -8,7 +8,7 @@ use lib.ListN.{length, take, drop, length-drop}
 use borrow.Rule.Slice.PartMut.{putMid}
 use Rattle.definitions.specs.Sums.{at}
 use Rattle.definitions.specs.Sets.{size}
-use Rattle.ranked_theory.specs.Rows.{Added, Subtracted, RowsStep, RowsReady, backFrom, backCount, RowOfResidues, Multiplied}
+use Rattle.ranked_theory.specs.Rows.{Added, Subtracted, RowsStep, RowsReady, backFrom, backCount, WholeRow, Multiplied}
 use Rattle.ranked_theory.specs.Layout.{width}
 use Rattle.ranked_theory.specs.Recursion.{Ready, Worked}
 use Rattle.ranked_theory.specs.Levels as level
@@ -61,7 +61,7 @@ turn m n (suc p) d half w xs pos some eh ew ready =
     (subst (λ (v : ℕ). Level m n (suc p) p d (2 ^ p * v) v xs) (sym ew) (level-of m n p d xs pos ready)))
 
 -- one entry: no control is left
-pub leaf-row : (m n q d : ℕ) (xs : List ℕ) → q ≡ 0 → Ready m n q d xs → RowOfResidues m n d xs
+pub leaf-row : (m n q d : ℕ) (xs : List ℕ) → q ≡ 0 → Ready m n q d xs → WholeRow n d xs
 leaf-row m n q d xs e ready = level.leaf-row m n d xs (subst (λ (k : ℕ). Ready m n k d xs) e ready)
 
 pub leaf : (m n q d : ℕ) (xs ys : List ℕ) → 0 < m → q ≡ 0 → Ready m n q d xs → Multiplied m n d xs ys → Worked m n q d xs ys

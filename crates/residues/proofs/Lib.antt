@@ -1,3 +1,3 @@
 pub mod Reduce
-pub mod Fold
+pub mod Carries
 pub mod Euclid

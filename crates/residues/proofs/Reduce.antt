@@ -1,11 +1,11 @@
--- How one comparison reduces a sum or a difference, and how large a product of two residues is.
+-- How one comparison reduces a sum or a difference, and that a product fits 64 bits.
 use mathlib.Core.Path.{_≡_, sym, _∙_, ap}
 use Prim.Native.Nat.{ℕ, _+_, _-_, _*_, _%_, _^_, _<_, _≤_}
 use native.Mathlib.Nat.{mod-eq-of-lt, mod-eq-sub-mod, mul-le-mul, mod-lt}
 use native.Mathlib.Omega.{arith}
 use native.Mathlib.Decide.{decLt}
 use mir.Val.{Fits}
-use mir.Syntax.{w32}
+use mir.Syntax.{w32, w64}
 use Rattle.definitions.specs.Limits.{largestModulus}
 use Rattle.residues.specs.Moduli.{Below, Residue, Back}
 
@@ -19,13 +19,13 @@ once x m h e l = record { same = sym (mod-eq-of-lt l) ∙ ap (λ (k : ℕ). k % 
 pub fits-residue : (x : ℕ) {m : ℕ} → 0 < m → m ≤ largestModulus → Fits w32 (x % m)
 fits-residue x {m} pos top = let h : x % m < m = mod-lt x pos in record { fits = omega arith }
 
--- two of these and what an accumulator holds are below its limit
-pub product-below : {m a b : ℕ} → Below m a b → m ≤ largestModulus → a * b < 2 ^ 62 - 2 ^ 32
-product-below {m} {a} {b} h top =
-    let x : a ≤ 2147483646 = omega arith in
-    let y : b ≤ 2147483646 = omega arith in
-    let p : a * b ≤ 2147483646 * 2147483646 = mul-le-mul x y in
-    omega arith
+-- a product of two numbers of 32 bits fits 64
+pub product-fits : {a b : ℕ} → a < 2 ^ 32 → b < 2 ^ 32 → Fits w64 (a * b)
+product-fits {a} {b} h k =
+    let x : a ≤ 4294967295 = omega arith in
+    let y : b ≤ 4294967295 = omega arith in
+    let p : a * b ≤ 4294967295 * 4294967295 = mul-le-mul x y in
+    record { fits = omega arith }
 
 -- a + r - b, where r is m or nothing, as a needs it
 module _ (m a b r : ℕ) (h : Below m a b) (back : Back m a b r) where

@@ -1,57 +1,59 @@
--- Sums of products modulo m, as the accumulator holds them. Callers go by `Holds`: the accumulator stands for the sum s
--- modulo m. What it holds and within which bounds is not for them to know.
-use mathlib.Core.Path.{_≡_, sym, ap, _∙_}
-use Prim.Native.Nat.{ℕ, _+_, _-_, _%_, _^_, _<_}
-use native.Mathlib.Nat.{mod-add-mod}
+-- Sums of products, as the accumulator holds them. Callers go by `Holds`: the accumulator holds the sum of so many terms, each a
+-- product of two numbers of 32 bits. How it holds it is not for them to know.
+use mathlib.Core.Path.{_≡_, ap, ap₂, _∙_}
+use Prim.Native.Nat.{ℕ, suc, _+_, _-_, _*_, _%_, _^_, _<_, _≤_}
+use native.Mathlib.Numerals.{add-one}
+use native.Mathlib.Omega.{arith}
+use Rattle.definitions.specs.Sums.{sum}
 use Rattle.residues.specs.Moduli.{Residue}
-use Rattle.residues.specs.declared.Modulus.{Modulus}
 use Rattle.residues.specs.declared.Accumulator.{Accumulator}
+use Rattle.residues.specs.declared.Wide.{Wide}
 
--- the number that it holds
+-- the number that it holds: the sum itself, not up to multiples of a modulus
 unfoldable pub held : Accumulator → ℕ
-held acc = acc .sum
+held acc = acc .low + 2 ^ 64 * acc .carries
 
--- it has room for two more products
-pub record Sound (modulus : Modulus) (acc : Accumulator) : Type 0 where
-  pub room : acc .sum < 2 ^ 63
+-- so many terms can be added up, and perhaps more
+abbrev pub mostTerms : ℕ
+mostTerms = 2 ^ 32 - 1
+
+-- it has room for one more term
+pub record Sound (acc : Accumulator) : Type 0 where
+  pub room : acc .carries < mostTerms
 
 pub record Started (acc : Accumulator) : Type 0 where
-  pub sound : (modulus : Modulus) → Sound modulus acc
+  pub counted : acc .carries ≡ 0
   pub empty : held acc ≡ 0
 
--- r is acc with x added
-pub record Added (modulus : Modulus) (acc : Accumulator) (x : ℕ) (r : Accumulator) : Type 0 where
-  pub sound : Sound modulus r
-  pub sum : held r % modulus .value ≡ (held acc + x) % modulus .value
+-- r is acc with the term x added
+pub record Added (acc : Accumulator) (x : ℕ) (r : Accumulator) : Type 0 where
+  pub counted : r .carries ≤ suc (acc .carries)
+  pub sum : held r ≡ held acc + x
 
--- no sum of what is held and two products reaches this
-abbrev pub foldLimit : ℕ
-foldLimit = 2 ^ 64 - 2 ^ 33
+-- r is the sum of two numbers of 64 bits
+pub record Summed (a b : ℕ) (r : Wide) : Type 0 where
+  pub once : r .carry ≤ 1
+  pub sum : r .low + 2 ^ 64 * r .carry ≡ a + b
 
--- r is the sum with room again, the same modulo m
-pub record Folded (modulus : Modulus) (s r : ℕ) : Type 0 where
-  pub room : r < 2 ^ 63
-  pub same : r % modulus .value ≡ s % modulus .value
+-- it holds the sum of so many terms
+pub record Holds (term : ℕ → ℕ) (count : ℕ) (acc : Accumulator) : Type 0 where
+  pub counted : acc .carries ≤ count
+  pub total : held acc ≡ sum count term
 
--- it stands for the sum s
-pub record Holds (modulus : Modulus) (s : ℕ) (acc : Accumulator) : Type 0 where
-  pub sound : Sound modulus acc
-  pub sum : held acc % modulus .value ≡ s % modulus .value
+module _ {term : ℕ → ℕ} where
+  pub holds-none : {acc : Accumulator} → Started acc → Holds term 0 acc
+  unfolding sum
+  holds-none h = record { counted = omega arith; total = h .empty }
 
--- an empty sum
-pub holds-start : {acc : Accumulator} (modulus : Modulus) → Started acc → Holds modulus 0 acc
-holds-start modulus h = record { sound = h .sound modulus; sum = ap (λ (x : ℕ). x % modulus .value) (h .empty) }
+  -- the next term
+  pub holds-next : {acc r : Accumulator} {j x : ℕ} → Holds term j acc → Added acc x r → x ≡ term j → Holds term (j + 1) r
+  unfolding sum
+  holds-next {j = j} h add e =
+      rw (add-one j) (record { counted = omega arith; total = add .sum ∙ ap₂ (λ (s t : ℕ). s + t) (h .total) e })
 
--- one more product, or two
-pub holds-added : {modulus : Modulus} {acc r : Accumulator} {s x : ℕ} → Holds modulus s acc → Added modulus acc x r → Holds modulus (s + x) r
-holds-added {modulus} {acc} {r} {s} {x} h add =
-    let m = modulus .value in
-    record {
-      sound = add .sound;
-      sum = add .sum ∙ sym (mod-add-mod (held acc) m x) ∙ ap (λ (k : ℕ). (k + x) % m) (h .sum) ∙ mod-add-mod s m x;
-    }
+  -- there is room while there are few
+  pub holds-room : {acc : Accumulator} {j : ℕ} → Holds term j acc → j < mostTerms → Sound acc
+  holds-room h few = record { room = omega arith }
 
--- the residue of the sum
-pub holds-residue : {modulus : Modulus} {acc : Accumulator} {s r : ℕ} →
-    Holds modulus s acc → Residue (modulus .value) (held acc) r → Residue (modulus .value) s r
-holds-residue h res = record { same = res .same ∙ h .sum; below = res .below }
+  pub holds-residue : {acc : Accumulator} {m j r : ℕ} → Holds term j acc → Residue m (held acc) r → Residue m (sum j term) r
+  holds-residue {m = m} h res = record { same = res .same ∙ ap (λ (k : ℕ). k % m) (h .total); below = res .below }

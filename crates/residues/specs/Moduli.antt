@@ -1,7 +1,7 @@
 -- The modulus: which numbers are taken for one, what is known of one, and what a residue is.
 use mathlib.Core.Path.{_≡_, refl, sym, _∙_, ap, subst}
 use mathlib.Core.Bool.{Bool, true, false}
-use Prim.Native.Nat.{ℕ, zero, suc, _*_, _/_, _%_, _^_, _<_, _≤_}
+use Prim.Native.Nat.{ℕ, zero, suc, _%_, _^_, _<_, _≤_}
 use native.Mathlib.Nat.{suc-ne-zero}
 use borrow.Author.Tests.{ltb-false}
 use lib.Dec.{ltb}
@@ -12,12 +12,8 @@ use Rattle.residues.specs.declared.Modulus.{Modulus}
 use Rattle.residues.specs.declared.ModulusAnswer.{ModulusAnswer}
 use Rattle.residues.specs.declared.ModulusAnswer.the-variants as answer
 
--- the largest multiple of m that is at most 2 ^ 63
-abbrev pub topOf : ℕ → ℕ
-topOf m = 2 ^ 63 / m * m
-
 abbrev pub modulusAt : ℕ → Modulus
-modulusAt m = record { value = m; top = topOf m }
+modulusAt m = record { value = m; «two_64» = 2 ^ 64 % m }
 
 -- the answer for m by 01's number
 abbrev pub answerBy : ℕ → ℕ → ModulusAnswer
@@ -37,7 +33,7 @@ numberOf (answer.Refused w) = w
 pub record Valid (modulus : Modulus) : Type 0 where
   pub lowest : lowestModulus ≤ modulus .value
   pub largest : modulus .value ≤ largestModulus
-  pub top-is : modulus .top ≡ topOf (modulus .value)
+  pub two-64-is : modulus .«two_64» ≡ 2 ^ 64 % modulus .value
 
 -- two residues
 pub record Below (m a b : ℕ) : Type 0 where
@@ -78,7 +74,7 @@ module _ (m : ℕ) where
   valid-by : (low high : Bool) → ltb m lowestModulus ≡ low → ltb largestModulus m ≡ high → orElse (wordIf low 2) (wordIf high 2) ≡ 0 → Valid (modulusAt m)
   valid-by true high l h z = absurd (suc-ne-zero 1 z)
   valid-by false true l h z = absurd (suc-ne-zero 1 z)
-  valid-by false false l h z = record { lowest = ltb-false _ _ l; largest = ltb-false _ _ h; top-is = refl }
+  valid-by false false l h z = record { lowest = ltb-false _ _ l; largest = ltb-false _ _ h; two-64-is = refl }
 
   -- a number without a word is a modulus
   pub valid-modulus : modulusWord m ≡ 0 → Valid (modulusAt m)

@@ -1,16 +1,17 @@
 // Residues: numbers modulo m. The modulus with its limits, sum, difference and product of two residues, sums of products
-// that are divided once, and reciprocals. What bounds the numbers inside is seen in this crate alone.
+// that are divided once, and reciprocals. What bounds the numbers inside is seen in this crate alone, but for how many products
+// a sum may have.
 ghost use mathlib.Core.Path.{_≡_};
 ghost use Prim.Native.Nat.{_+_, _-_, _*_, _<_};
 ghost use Rattle.residues.specs.Moduli.{modulusOf, Valid, Below, Residue, Back};
-ghost use Rattle.residues.specs.Accumulated.{held, Sound, Started, Added, foldLimit, Folded};
+ghost use Rattle.residues.specs.Accumulated.{held, Sound, Started, Added, Summed};
 ghost use Rattle.residues.specs.Reciprocals.{ReciprocalIs, InRange, Next};
 
 // Only `Modulus::new` makes one.
 pub struct Modulus {
     value: u32,
-    // the largest multiple of the value that is at most FOLD
-    top: u64,
+    // the residue of 2 to the 64
+    two_64: u64,
 }
 
 pub enum ModulusAnswer {
@@ -19,9 +20,16 @@ pub enum ModulusAnswer {
     Refused(u32),
 }
 
-// A sum of products, up to multiples of the modulus.
+// A sum of products: the lowest 64 bits, and how often they were carried over.
 pub struct Accumulator {
-    sum: u64,
+    low: u64,
+    carries: u32,
+}
+
+// A sum of two numbers of 64 bits.
+struct Wide {
+    low: u64,
+    carry: u32,
 }
 
 pub enum Reciprocal {
@@ -38,13 +46,10 @@ struct Remainders {
     of_smaller: u32,
 }
 
-// 2 to the 63.
-const FOLD: u64 = 9223372036854775808;
-
 impl Modulus {
     pub const LOWEST: u32 = 2;
 
-    pub const LARGEST: u32 = 2147483647;
+    pub const LARGEST: u32 = 4294967295;
 
     pub fn new(m: u32) -> ModulusAnswer
         ensures { λ r. ⌜ r ≡ modulusOf m ⌝ }
@@ -58,7 +63,7 @@ impl Modulus {
         let wide = m as u64;
         ModulusAnswer::Modulus(Modulus {
             value: m,
-            top: FOLD / wide * wide,
+            two_64: (u64::MAX % wide + 1) % wide,
         })
     }
 
@@ -112,15 +117,6 @@ impl Modulus {
         self.reduce(product)
     }
 
-    // Takes a multiple of the modulus off a sum that has reached FOLD. There is no branch.
-    fn fold(self, sum: u64) -> u64
-        requires { ⌜ Valid self ⌝ }
-        requires { ⌜ sum < foldLimit ⌝ }
-        ensures { λ r. ⌜ Folded self sum r ⌝ }
-    {
-        sum - sum / FOLD * self.top
-    }
-
     // The residue that times a is 1, or why there is none: Euclid's algorithm.
     pub fn reciprocal(self, a: u32) -> Reciprocal
         requires { ⌜ Valid self ⌝ }
@@ -163,45 +159,50 @@ impl Remainders {
     }
 }
 
+impl Wide {
+    // What is left of a sum that was carried over is below either number.
+    fn sum(a: u64, b: u64) -> Wide
+        ensures { λ r. ⌜ Summed a b r ⌝ }
+    {
+        let low = std::num::wrapping_add_u64(a, b);
+        if low < b {
+            Wide { low: low, carry: 1 }
+        } else {
+            Wide { low: low, carry: 0 }
+        }
+    }
+}
+
 impl Accumulator {
     pub fn start() -> Accumulator
         ensures { λ r. ⌜ Started r ⌝ }
     {
-        Accumulator { sum: 0 }
+        Accumulator { low: 0, carries: 0 }
     }
 
-    pub fn add_product(self, modulus: Modulus, a: u32, b: u32) -> Accumulator
-        requires { ⌜ Valid modulus ⌝ }
-        requires { ⌜ Sound modulus self ⌝ }
-        requires { ⌜ Below (modulus .value) a b ⌝ }
-        ensures { λ r. ⌜ Added modulus self (a * b) r ⌝ }
+    pub fn add_product(self, a: u32, b: u32) -> Accumulator
+        requires { ⌜ Sound self ⌝ }
+        ensures { λ r. ⌜ Added self (a * b) r ⌝ }
     {
-        let sum = self.sum + (a as u64) * (b as u64);
+        let term = (a as u64) * (b as u64);
+        let sum = Wide::sum(self.low, term);
         Accumulator {
-            sum: modulus.fold(sum),
+            low: sum.low,
+            carries: self.carries + sum.carry,
         }
     }
 
-    // Two products are folded at once.
-    pub fn add_products(self, modulus: Modulus, a: u32, b: u32, c: u32, d: u32) -> Accumulator
-        requires { ⌜ Valid modulus ⌝ }
-        requires { ⌜ Sound modulus self ⌝ }
-        requires { ⌜ Below (modulus .value) a b ⌝ }
-        requires { ⌜ Below (modulus .value) c d ⌝ }
-        ensures { λ r. ⌜ Added modulus self (a * b + c * d) r ⌝ }
-    {
-        let both = (a as u64) * (b as u64) + (c as u64) * (d as u64);
-        let sum = self.sum + both;
-        Accumulator {
-            sum: modulus.fold(sum),
-        }
-    }
-
+    // Each carry counts as the residue of 2 to the 64. A last one hardly ever comes, so that the branch is foreseen.
     pub fn residue(self, modulus: Modulus) -> u32
         requires { ⌜ Valid modulus ⌝ }
-        requires { ⌜ Sound modulus self ⌝ }
         ensures { λ r. ⌜ Residue (modulus .value) (held self) r ⌝ }
     {
-        modulus.reduce(self.sum)
+        let more = (self.carries as u64) * modulus.two_64;
+        let sum = Wide::sum(self.low, more);
+        if sum.carry == 0 {
+            modulus.reduce(sum.low)
+        } else {
+            modulus.reduce(sum.low + modulus.two_64)
+        }
     }
 }

@@ -69,11 +69,11 @@ impl Call {
         !matches!(self, Call::Sum | Call::Difference | Call::BinomialProduct)
     }
 
-    /// The moduli at which the call is tried.
+    /// The moduli at which the call is tried. 2^64 is small modulo those near 2^32, but not modulo 3037000499.
     pub fn moduli(self) -> &'static [u32] {
         match self {
-            Call::XorProduct => &[3, 9, 15, 101, 1155, 1_000_000_007, 2_147_483_647],
-            _ => &[2, 3, 4, 6, 101, 256, 30030, 998_244_353, 1_000_000_006, 2_147_483_646, 2_147_483_647],
+            Call::XorProduct => &[3, 9, 15, 101, 1155, 2_147_483_647, 3_037_000_499, 4_294_967_291, 4_294_967_295],
+            _ => &[2, 3, 4, 6, 101, 256, 30030, 998_244_353, 3_037_000_499, 4_294_967_291, 4_294_967_294, 4_294_967_295],
         }
     }
 

@@ -23,7 +23,7 @@ fn every_panel(call: Call) {
 fn one_slice_twice(call: Call) {
     let random = &mut Random::new(3);
     for n in 0..=8 {
-        let mut case = Case::filled(call, n, 2_147_483_647, [FILLS[2]; 2], random);
+        let mut case = Case::filled(call, n, 4_294_967_295, [FILLS[2]; 2], random);
         case.inputs[1] = case.inputs[0].clone();
         case.same_slice = true;
         call.compare(&case);

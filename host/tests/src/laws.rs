@@ -4,7 +4,7 @@ use crate::calls::{assert_same, Call, Case};
 use crate::random::{Fill, Random};
 
 const PANELS: std::ops::RangeInclusive<u32> = 0..=16;
-const MODULI: [u32; 7] = [2, 3, 6, 30030, 1_000_000_006, 2_147_483_646, 2_147_483_647];
+const MODULI: [u32; 8] = [4_294_967_295, 4_294_967_294, 4_294_967_291, 3_037_000_499, 2, 3, 6, 30030];
 
 /// The result of an accepted call.
 fn result(call: Call, n: u32, m: u32, inputs: &[&[u32]]) -> Vec<u32> {
@@ -13,7 +13,7 @@ fn result(call: Call, n: u32, m: u32, inputs: &[&[u32]]) -> Vec<u32> {
     outcome.result
 }
 
-/// Shows `law` each panel, the larger ones with one or two of the moduli.
+/// Shows `law` each panel, the larger ones with a large and a small modulus.
 fn for_each_panel(mut law: impl FnMut(u32, u32, &mut Random)) {
     let random = &mut Random::new(19);
     for n in PANELS {

@@ -43,7 +43,7 @@ fn the_papers_example() {
 fn whole_files() {
     let random = &mut Random::new(27);
     for n in 0..=8 {
-        for m in [2, 7, 30030, 2_147_483_647] {
+        for m in [2, 7, 30030, 4_294_967_295] {
             for fill in FILLS {
                 check(&random_file(n, m, fill, random).bytes());
             }
@@ -54,7 +54,7 @@ fn whole_files() {
 #[test]
 fn damaged_files() {
     let random = &mut Random::new(28);
-    for (n, m) in [(0, 2), (1, 300), (2, 7), (3, 2_147_483_647)] {
+    for (n, m) in [(0, 2), (1, 300), (2, 7), (3, 4_294_967_295)] {
         let bytes = random_file(n, m, Fill::Uniform, random).bytes();
         for i in 0..bytes.len() {
             check(&bytes[..i]);
@@ -65,7 +65,7 @@ fn damaged_files() {
             }
         }
     }
-    let bytes = random_file(8, 2_147_483_647, Fill::Largest, random).bytes();
+    let bytes = random_file(8, 4_294_967_295, Fill::Largest, random).bytes();
     for cut in [1, 2, 4, 5, 6, 7, 600, bytes.len() - 1] {
         check(&bytes[..cut]);
     }
@@ -76,7 +76,7 @@ fn damaged_files() {
 fn tails() {
     let random = &mut Random::new(29);
     for n in [0, 2, 8] {
-        let bytes = random_file(n, 2_147_483_647, Fill::Largest, random).bytes();
+        let bytes = random_file(n, 4_294_967_295, Fill::Largest, random).bytes();
         for tail in [1, 2, 100, 714, 715, 1286, 1287, 2048, 4096, 65536, 300_000] {
             check(&[&bytes[..], &vec![0; tail]].concat());
             check(&[&bytes[..], &vec![0x80; tail]].concat());
@@ -105,7 +105,7 @@ fn larger_panels() {
 fn input_in_pieces() {
     let random = &mut Random::new(31);
     for n in [2, 5, 8] {
-        let bytes = random_file(n, 2_147_483_647, Fill::Uniform, random).bytes();
+        let bytes = random_file(n, 4_294_967_295, Fill::Uniform, random).bytes();
         let pieces: Vec<_> = bytes.chunks(bytes.len() / 4 + 1).collect();
         assert_eq!(printed(&pieces), shown(&bytes));
     }

@@ -25,11 +25,11 @@ fn small_panels(call: Call) {
 fn larger_panels(call: Call) {
     let random = &mut Random::new(14);
     for n in 7..=9 {
-        for m in [2, 3, 4, 6, 30030, 2_147_483_646, 2_147_483_647] {
+        for m in [2, 3, 4, 6, 30030, 4_294_967_291, 4_294_967_294, 4_294_967_295] {
             call.compare(&Case::filled(call, n, m, [Fill::Uniform; 2], random));
         }
     }
-    call.compare(&Case::filled(call, 10, 2_147_483_647, [Fill::Largest; 2], random));
+    call.compare(&Case::filled(call, 10, 4_294_967_295, [Fill::Largest; 2], random));
 }
 
 fn both(call: Call) {
@@ -57,9 +57,24 @@ fn composition() {
     both(Call::Composition);
 }
 
+/// Euclid's coefficients near the largest modulus: small first entries, ones near m, near its half and near m divided by the
+/// golden ratio, where divisions go on long, and any; and the two numbers of Fibonacci with the longest.
+#[test]
+fn inverse_of_first_entries_near_the_limit() {
+    let random = &mut Random::new(32);
+    for m in 4_294_967_280..=4_294_967_295 {
+        let near = (1..30).flat_map(|k| [k, m / 2 - 15 + k, 2_654_435_769 - 15 + k, m - k]);
+        for first in near.chain((0..200).map(|_| random.residue(m))) {
+            Call::Inverse.compare(&Case::new(Call::Inverse, 0, m, vec![vec![first]]));
+            Call::Inverse.compare(&Case::new(Call::Inverse, 1, m, vec![vec![first, m - 1]]));
+        }
+    }
+    Call::Inverse.compare(&Case::new(Call::Inverse, 0, 2_971_215_073, vec![vec![1_836_311_903]]));
+}
+
 /// Panels and moduli at which partitions are too many to list.
 const LARGE: [(u32, u32); 6] =
-    [(11, 6), (12, 30030), (13, 2_147_483_647), (14, 4), (15, 1_000_000_007), (16, 2_147_483_646)];
+    [(11, 6), (12, 30030), (13, 4_294_967_295), (14, 4_294_967_291), (15, 2_147_483_647), (16, 4_294_967_294)];
 
 #[test]
 fn exponential_of_large_panels() {

@@ -45,7 +45,7 @@ fn damages(call: Call, n: u32, m: u32) -> Vec<Damage> {
             all.push(damage(3, move |case| case.inputs.get_mut(slice).unwrap_or(&mut case.result).resize(wrong, 0)));
         }
     }
-    for m in [0, 1, 1 << 31, u32::MAX] {
+    for m in [0, 1] {
         all.push(damage(2, move |case| case.m = m));
     }
     for n in [17, 18, 32, 33, 64, u32::MAX] {
@@ -76,7 +76,7 @@ fn try_damaged(call: Call, case: &Case, inflicted: &[&Damage]) {
 fn every_refusal(call: Call) {
     let random = &mut Random::new(1);
     for n in [0, 1, 2, 3, 5] {
-        for &m in [3, 9, 101, 2_147_483_647].iter().chain(call.moduli().iter().filter(|_| n < 3)) {
+        for &m in [3, 9, 101, 4_294_967_295].iter().chain(call.moduli().iter().filter(|_| n < 3)) {
             let case = Case::filled(call, n, m, [Fill::Uniform; 2], random);
             let damages = damages(call, n, m);
             try_damaged(call, &case, &[]);

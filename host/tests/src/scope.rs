@@ -91,12 +91,12 @@ fn slip_of_dividing_by_a_factorial() {
 #[test]
 fn slip_of_subtracting() {
     gives(Call::Difference, 101, &[&P, &Q], &[97; 4]);
-    gives(Call::Difference, 2_147_483_647, &[&[0, 0], &[1, 2_147_483_646]], &[2_147_483_646, 1]);
+    gives(Call::Difference, 4_294_967_295, &[&[0, 0], &[1, 4_294_967_294]], &[4_294_967_294, 1]);
     gives(Call::Difference, 2, &[&[0, 1], &[1, 1]], &[1, 0]);
 }
 
-/// n 16 is accepted, 17 refused; m 2 accepted, 1 refused; 2147483647 accepted, 2147483648 refused; entry m − 1 accepted,
-/// m refused. With n = 0 a table has one entry.
+/// n 16 is accepted, 17 refused; m 2 accepted, 1 refused; 4294967295 accepted, and no larger m can be lent; entry m − 1
+/// accepted, m refused. With n = 0 a table has one entry.
 #[test]
 fn edges_of_panel_modulus_and_entry() {
     let number =
@@ -105,8 +105,8 @@ fn edges_of_panel_modulus_and_entry() {
     assert_eq!(number(17, 7, 1 << 17, 6), 1);
     assert_eq!(number(2, 2, 4, 1), 0);
     assert_eq!(number(2, 1, 4, 0), 2);
-    assert_eq!(number(2, 2_147_483_647, 4, 2_147_483_646), 0);
-    assert_eq!(number(2, 2_147_483_648, 4, 2_147_483_646), 2);
+    assert_eq!(number(2, 4_294_967_295, 4, 4_294_967_294), 0);
+    assert_eq!(number(2, 4_294_967_295, 4, 4_294_967_295), 5);
     assert_eq!(number(2, 7, 4, 6), 0);
     assert_eq!(number(2, 7, 4, 7), 5);
     assert_eq!(number(0, 7, 1, 6), 0);
@@ -143,6 +143,8 @@ fn edges_of_files() {
     assert_eq!(ffi::header_check(&[0x80, 0x00, 7]), 8 << 40);
     assert_eq!(ffi::header_check(&[]), 8 << 40);
     assert_eq!(ffi::header_check(&[2, 7]), 2 << 32 | 7);
+    assert_eq!(ffi::header_check(&[16, 0xff, 0xff, 0xff, 0xff, 0x0f]), 16 << 32 | 4_294_967_295);
+    assert_eq!(ffi::header_check(&[16, 0x80, 0x80, 0x80, 0x80, 0x10]), 8 << 40);
 }
 
 #[test]
@@ -153,4 +155,10 @@ fn edges_of_the_reader() {
     assert_eq!(*table, [9; 4]);
     assert_eq!(ffi::read_table(&[2, 7, 0, 3, 0, 5], table), 2 << 32 | 7);
     assert_eq!(*table, [0, 3, 0, 5]);
+    let largest = [0, 0xff, 0xff, 0xff, 0xff, 0x0f];
+    let entry = |lowest| [&largest[..], &[lowest, 0xff, 0xff, 0xff, 0x0f]].concat();
+    assert_eq!(ffi::read_table(&entry(0xfe), &mut table[..1]), 4_294_967_295);
+    assert_eq!(*table, [4_294_967_294, 3, 0, 5]);
+    assert_eq!(ffi::read_table(&entry(0xff), &mut table[..1]), 5 << 40);
+    assert_eq!(*table, [4_294_967_294, 3, 0, 5]);
 }

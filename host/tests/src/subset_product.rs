@@ -23,7 +23,7 @@ fn small_panels() {
 fn larger_panels() {
     let random = &mut Random::new(5);
     for n in 9..=13 {
-        for m in [2, 4, 6, 30030, 2_147_483_646, 2_147_483_647] {
+        for m in [2, 4, 6, 30030, 2_147_483_647, 3_037_000_499, 4_294_967_291, 4_294_967_294, 4_294_967_295] {
             for fills in
                 [[Fill::Uniform; 2], [Fill::Largest; 2], [Fill::Sparse, Fill::Extremes], [Fill::Single, Fill::Uniform]]
             {
@@ -38,11 +38,14 @@ fn larger_panels() {
 #[test]
 fn largest_panel() {
     let random = &mut Random::new(6);
-    for (m, fill) in [(2_147_483_647, Fill::Largest), (2_147_483_646, Fill::Uniform), (30030, Fill::Sparse)] {
+    for m in [4_294_967_291, 4_294_967_294, 4_294_967_295] {
+        CALL.compare(&Case::filled(CALL, 16, m, [Fill::Largest; 2], random));
+    }
+    for (m, fill) in [(4_294_967_295, Fill::Uniform), (3_037_000_499, Fill::Largest), (30030, Fill::Sparse)] {
         CALL.compare(&Case::filled(CALL, 16, m, [fill, Fill::Uniform], random));
     }
     for n in [14, 15] {
-        CALL.compare(&Case::filled(CALL, n, 2_147_483_647, [Fill::Uniform, Fill::Largest], random));
+        CALL.compare(&Case::filled(CALL, n, 4_294_967_294, [Fill::Uniform, Fill::Largest], random));
     }
 }
 
@@ -65,7 +68,7 @@ fn whatever_was_lent() {
     let random = &mut Random::new(7);
     for n in 0..=9 {
         for tail in [0, 1, 1000] {
-            let mut case = Case::filled(CALL, n, 2_147_483_647, [Fill::Uniform; 2], random);
+            let mut case = Case::filled(CALL, n, 4_294_967_295, [Fill::Uniform; 2], random);
             case.inputs[1] = case.inputs[0].clone();
             case.same_slice = tail == 1;
             case.pad.resize(case.pad.len() - 5 + tail, 0);

@@ -31,9 +31,9 @@ fn larger_panels(call: Call) {
         }
     }
     for n in [10, 11, 12] {
-        call.compare(&Case::filled(call, n, 2_147_483_647, [Fill::Uniform, Fill::Largest], random));
+        call.compare(&Case::filled(call, n, 4_294_967_295, [Fill::Uniform, Fill::Largest], random));
     }
-    let mut case = Case::filled(call, 8, 2_147_483_647, [Fill::Uniform; 2], random);
+    let mut case = Case::filled(call, 8, 4_294_967_295, [Fill::Uniform; 2], random);
     case.inputs[1] = case.inputs[0].clone();
     case.same_slice = true;
     call.compare(&case);
@@ -42,7 +42,7 @@ fn larger_panels(call: Call) {
 /// Some entries for panels whose pairs are too many.
 fn some_entries(call: Call, sets: usize, mut entry: impl FnMut(&mut Random, &Case) -> (usize, u32)) {
     let random = &mut Random::new(10);
-    for (n, m) in [(13, 1155), (14, 15), (15, 1_000_000_007), (16, 2_147_483_647)] {
+    for (n, m) in [(13, 1155), (14, 2_147_483_647), (15, 4_294_967_291), (16, 4_294_967_295)] {
         for fills in [[Fill::Uniform; 2], [Fill::Largest; 2]] {
             let case = Case::filled(call, n, m, fills, random);
             let result = call.run(&case).result;
@@ -72,7 +72,7 @@ fn union_product_of_large_panels() {
 
 #[test]
 fn union_product_of_the_whole_largest_panel() {
-    let case = Case::filled(Call::UnionProduct, 16, 2_147_483_646, [Fill::Uniform; 2], &mut Random::new(11));
+    let case = Case::filled(Call::UnionProduct, 16, 4_294_967_294, [Fill::Uniform; 2], &mut Random::new(11));
     let everything = (1 << 16) - 1;
     let expected = union_product_at(everything, case.m, &case.inputs[0], &case.inputs[1]);
     assert_eq!(Call::UnionProduct.run(&case).result[everything], expected);
@@ -97,7 +97,7 @@ fn xor_product_of_large_panels() {
 fn xor_product_under_even_moduli() {
     let random = &mut Random::new(12);
     for n in [0, 1, 4] {
-        for m in [2, 4, 6, 256, 30030, 2_147_483_646] {
+        for m in [2, 4, 6, 256, 30030, 4_294_967_294] {
             let mut case = Case::filled(Call::XorProduct, n, m, [Fill::Uniform; 2], random);
             assert_eq!(Call::XorProduct.run(&case).number, 7);
             *case.inputs[1].last_mut().unwrap() = m;

@@ -4,14 +4,14 @@ use native.Mathlib.Omega.{arith}
 use denote.Ref.{now}
 use borrow.Author.Needs.{needs}
 use Rattle.definitions.specs.Sums.{sum, at}
-use Rattle.residues.specs.Accumulated.{Holds, holds-residue}
-use Rattle.binomial.proofs.Pascal.{reducedAt, holds-none, one-more, unreduced}
+use Rattle.residues.specs.Accumulated.{Holds, holds-none, holds-next, holds-room, holds-residue}
+use Rattle.binomial.proofs.Pascal.{reducedAt, unreduced}
 use Rattle.binomial.proofs.binomial_entry.Statement.{statement}
 use Rattle.binomial.proofs.binomial_entry.Tie as tie
 
 abbrev Inv-loop : tie.InvT-loop
 Inv-loop modulus choices f g i total₀ j₀ total j =
-    (j ≤ i + 1) × Holds modulus (sum j (reducedAt (modulus .value) choices f g i)) total
+    (j ≤ i + 1) × Holds (reducedAt (modulus .value) choices f g i) j total
 
 abbrev μ-loop : tie.MeasureT-loop
 μ-loop modulus choices f g i total₀ j₀ total j = i + 1 - j
@@ -20,11 +20,7 @@ start-requires : tie.Need-start-requires Inv-loop μ-loop
 start-requires c κs = search needs
 
 loop-holds : tie.Need-loop-holds Inv-loop μ-loop
-loop-holds c =
-    let s = c .before .before .before .args in (
-      search needs,
-      holds-none (s .modulus) (reducedAt (s .modulus .value) (now (s .choices)) (now (s .f)) (now (s .g)) (s .i)) (c .start .ensures),
-    )
+loop-holds c = (search needs, holds-none (c .start .ensures))
 
 mul-multiply : tie.Need-mul-multiply Inv-loop μ-loop
 mul-multiply c = search needs
@@ -53,15 +49,7 @@ element-copy-out-add-product : tie.Need-element-copy-out-add-product Inv-loop μ
 element-copy-out-add-product c = search needs
 
 add-product-requires : tie.Need-add-product-requires Inv-loop μ-loop
-add-product-requires c κs =
-    let at = c .before .before .before .before .before in
-    let s = at .before .before .before .before in (
-      s .pre .0 .valid,
-      (
-        at .loop .inv .1 .sound,
-        record { first = s .pre .1 .0 .below _; second = c .before .multiply .ensures .below },
-      ),
-    )
+add-product-requires c κs = holds-room (c .before .before .before .before .before .loop .inv .1) (omega arith)
 
 add-j : tie.Need-add-j Inv-loop μ-loop
 add-j c = search needs
@@ -74,13 +62,11 @@ loop-again c =
     let here = c .before .before .before .before .before .before in
     let s = here .before .before .before .before .args in (
       search needs,
-      one-more (s .modulus) (reducedAt (s .modulus .value) (now (s .choices)) (now (s .f)) (now (s .g)) (s .i)) (here .loop .inv .1)
-          (c .add-product .ensures) (ap (λ (x : ℕ). at (now (s .choices)) (here .loop .j) * x) (c .before .before .multiply .ensures .same)),
+      holds-next (here .loop .inv .1) (c .add-product .ensures) (ap (λ (x : ℕ). at (now (s .choices)) (here .loop .j) * x) (c .before .before .multiply .ensures .same)),
     )
 
 residue-requires : tie.Need-residue-requires Inv-loop μ-loop
-residue-requires c κs =
-    (c .before .before .before .before .before .pre .0 .valid, c .before .loop .inv .1 .sound)
+residue-requires c κs = c .before .before .before .before .before .pre .0 .valid
 
 returns : tie.Need-returns Inv-loop μ-loop
 returns c =

@@ -2,7 +2,7 @@ use mathlib.Core.Path.{_∙_}
 use Prim.Native.Nat.{_+_, _-_, _*_, _≤_}
 use native.Mathlib.Omega.{arith}
 use lib.ListN.{length-set}
-use Rattle.ranked_theory.specs.Leaf.{Multiplying, multiplying-none, multiplying-more, multiplying-all, ranks-below}
+use Rattle.ranked_theory.specs.Leaf.{Multiplying, multiplying-none, multiplying-more, multiplying-all, ranks-within}
 use borrow.Author.Needs.{needs}
 use Rattle.ranked_rows.proofs.multiply_row.Statement.{statement}
 use Rattle.ranked_rows.proofs.multiply_row.Tie as tie
@@ -32,7 +32,7 @@ product-rank-requires : tie.Need-product-rank-requires Inv-loop μ-loop
 product-rank-requires c κs =
     let s = c .before .before .before .before .before .before .before in
     let less : c .before .before .before .loop .e ≤ s .args .d .0 = omega (arith, c .before .if1 .taken, c .before .before .before .before .lesser .ensures) in
-    (s .pre .0, (less, ranks-below _ _ _ _ (s .pre .1) _ _ (c .before .before .before .loop .inv) less))
+    (s .pre .0, (less, ranks-within _ _ _ _ (s .pre .1) _ _ (c .before .before .before .loop .inv) less))
 
 mul-row : tie.Need-mul-row Inv-loop μ-loop
 mul-row c = omega (arith, c .before .before .before .before .loop .inv .long, c .before .before .before .before .before .before .before .before .pre .1 .long)

@@ -4,7 +4,7 @@ use super::greatest_common_divisor;
 use crate::calls::{Call, Case, Shape};
 
 pub const MOST_CONTROLS: u32 = 16;
-pub const LARGEST_MODULUS: u32 = 2_147_483_647;
+pub const LARGEST_MODULUS: u32 = 4_294_967_295;
 
 /// How many entries of a pad a call uses.
 pub fn pad_length(n: u32) -> usize {

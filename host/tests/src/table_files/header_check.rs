@@ -49,7 +49,7 @@ fn header_check_stops_after_m() {
             for behind in [&[][..], &[0x80], &[0xff; 20], &[0]] {
                 let bytes = [&groups(n), &groups(m), behind].concat();
                 check_header(&bytes);
-                if n <= MOST_CONTROLS && (2..1 << 31).contains(&m) {
+                if n <= MOST_CONTROLS && m >= 2 {
                     assert_eq!(ffi::header_check(&bytes), u64::from(n) << 32 | u64::from(m));
                 }
             }
@@ -72,8 +72,6 @@ fn header_check_in_file_order() {
         (8, &[16, 0x81, 0x00]),
         (2, &[16, 0]),
         (2, &[16, 1]),
-        (2, &[16, 0x80, 0x80, 0x80, 0x80, 0x08]),
-        (2, &[16, 0xff, 0xff, 0xff, 0xff, 0x0f]),
         (8, &[16, 0x80, 0x80, 0x80, 0x80, 0x10]),
     ] {
         assert_eq!(ffi::header_check(bytes), word << 40, "{bytes:02x?}");

@@ -8,7 +8,7 @@ use crate::lent::Lent;
 use crate::random::{Fill, Random, FILLS};
 use crate::reference::files::{groups, groups_padded, File};
 
-const MODULI: [u32; 9] = [2, 3, 101, 128, 300, 16384, 30030, 2_147_483_646, 2_147_483_647];
+const MODULI: [u32; 10] = [2, 3, 101, 128, 300, 16384, 30030, 2_147_483_647, 4_294_967_294, 4_294_967_295];
 
 /// n · 2^32 + m, or 2^40 times the refusal.
 pub fn packed(answer: Result<(u32, u32), u32>) -> u64 {

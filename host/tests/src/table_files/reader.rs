@@ -40,7 +40,7 @@ fn reader_of_whole_and_damaged_files() {
     });
     let random = &mut Random::new(22);
     for n in [5, 6, 8] {
-        let file = random_file(n, 2_147_483_647, Fill::Sparse, random);
+        let file = random_file(n, 4_294_967_295, Fill::Sparse, random);
         for_each_damage(&file.bytes(), random, |bytes| check_reader(bytes, 1 << n));
     }
     for _ in 0..50_000 {
@@ -52,7 +52,7 @@ fn reader_of_whole_and_damaged_files() {
 fn reader_of_large_files() {
     let random = &mut Random::new(23);
     for n in 9..=16 {
-        for m in [2, 30030, 2_147_483_647] {
+        for m in [2, 30030, 4_294_967_295] {
             let file = random_file(n, m, Fill::Uniform, random);
             let mut bytes = file.bytes();
             check_reader(&bytes, 1 << n);

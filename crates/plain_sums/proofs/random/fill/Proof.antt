@@ -17,8 +17,8 @@ loop-holds c = search needs
 times-requires : tie.Need-times-requires Inv-loop μ-loop
 times-requires c κs = search needs
 
-times-requires-2 : tie.Need-times-requires-2 Inv-loop μ-loop
-times-requires-2 c κs = search needs
+residue-requires : tie.Need-residue-requires Inv-loop μ-loop
+residue-requires c κs = search needs
 
 kept-requires : tie.Need-kept-requires Inv-loop μ-loop
 kept-requires c κs = search needs
@@ -52,7 +52,7 @@ fill-spec =
     μ-loop
     loop-holds
     times-requires
-    times-requires-2
+    residue-requires
     kept-requires
     mul-a
     slice-write-a

@@ -1,8 +1,8 @@
 use Prim.Native.Nat.{_≤_, _-_}
 use lib.ListN.{length}
 use borrow.Author.Needs.{needs}
-use Rattle.lines.proofs.reading.value.Statement.{statement}
-use Rattle.lines.proofs.reading.value.Tie as tie
+use Rattle.lines.proofs.reading.spelled.Statement.{statement}
+use Rattle.lines.proofs.reading.spelled.Tie as tie
 
 abbrev Inv-loop : tie.InvT-loop
 Inv-loop text x₀ i₀ x i = i ≤ length text
@@ -31,8 +31,8 @@ loop-again c = search needs
 returns : tie.Need-returns Inv-loop μ-loop
 returns c = search needs
 
-pub value-spec : {M : Type 1} → statement M
-value-spec =
+pub spelled-spec : {M : Type 1} → statement M
+spelled-spec =
     tie.close
     (tie.spec
     Inv-loop
