@@ -137,4 +137,40 @@ returns-2 c =
     subst (λ (k : ℕ). Residue (a .modulus .value) (sum k (term t (a .row .now))) (c .residue2 .result)) all (holds-residue (here .inv .1) (c .residue2 .ensures))
 
 pub product-rank-spec : {M : Type 1} → statement M
-product-rank-spec = tie.close (tie.spec Inv-loop μ-loop sub-top start-requires loop-holds sub-left mul-left mul-right add-right sub-left-next add-right-next mul-add-product shared-slice-read-add-product mul-add-product-2 shared-slice-read-add-product-2 add-product-requires mul-add-product-3 shared-slice-read-add-product-3 mul-add-product-4 shared-slice-read-add-product-4 add-product-requires-2 add-j loop-less loop-again mul-right-2 add-right-2 shared-slice-read-add-product-5 mul-add-product-5 shared-slice-read-add-product-6 add-product-requires-3 residue-requires residue-requires-2 returns returns-2)
+product-rank-spec =
+    tie.close
+    (tie.spec
+    Inv-loop
+    μ-loop
+    sub-top
+    start-requires
+    loop-holds
+    sub-left
+    mul-left
+    mul-right
+    add-right
+    sub-left-next
+    add-right-next
+    mul-add-product
+    shared-slice-read-add-product
+    mul-add-product-2
+    shared-slice-read-add-product-2
+    add-product-requires
+    mul-add-product-3
+    shared-slice-read-add-product-3
+    mul-add-product-4
+    shared-slice-read-add-product-4
+    add-product-requires-2
+    add-j
+    loop-less
+    loop-again
+    mul-right-2
+    add-right-2
+    shared-slice-read-add-product-5
+    mul-add-product-5
+    shared-slice-read-add-product-6
+    add-product-requires-3
+    residue-requires
+    residue-requires-2
+    returns
+    returns-2)
