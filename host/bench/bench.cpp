@@ -110,8 +110,14 @@ std::vector<Bench> benches() {
         [](Data &d) { plain::By<Form>::logarithm(d.n, d.m, d.first_one.data(), d.plain_result.data(), d.work.data()); });
     add("inverse", "plain", [](Data &d) { return sps_inverse(d.n, d.m, TABLE(first_one), RESULT, PAD); },
         [](Data &d) { plain::By<Form>::inverse(d.n, d.m, d.first_one.data(), d.plain_result.data(), d.work.data()); });
-    add("projection", "plain", [](Data &d) { return sps_projection(d.n, d.m, TABLE(a), TABLE(first_zero), TABLE(row), PAD); },
-        [](Data &d) { plain::By<Form>::projection(d.n, d.m, d.a.data(), d.first_zero.data(), d.plain_row.data(), d.work.data()); });
+    auto projection = [](Data &d) { return sps_projection(d.n, d.m, TABLE(a), TABLE(first_zero), TABLE(row), PAD); };
+    add("projection", "plain", projection, [](Data &d) {
+        plain::By<Form>::projection(d.n, d.m, d.a.data(), d.first_zero.data(), d.plain_row.data(), d.work.data());
+    });
+    // Next to the library's own product, round by round: the cost in subset products.
+    add("projection", "subset product", projection, [](Data &d) {
+        return sps_subset_product(d.n, d.m, TABLE(a), TABLE(b), d.work.data(), d.entries, PAD) & 0xffffffff;
+    });
 
     auto union_ = [](Data &d) { return sps_union_product(d.n, d.m, TABLE(a), TABLE(b), RESULT, PAD); };
     auto plain_union = PLAIN_PRODUCT(union_product);
