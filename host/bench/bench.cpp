@@ -110,6 +110,14 @@ std::vector<Bench> benches() {
         [](Data &d) { plain::By<Form>::logarithm(d.n, d.m, d.first_one.data(), d.plain_result.data(), d.work.data()); });
     add("inverse", "plain", [](Data &d) { return sps_inverse(d.n, d.m, TABLE(first_one), RESULT, PAD); },
         [](Data &d) { plain::By<Form>::inverse(d.n, d.m, d.first_one.data(), d.plain_result.data(), d.work.data()); });
+    auto projection = [](Data &d) { return sps_projection(d.n, d.m, TABLE(a), TABLE(first_zero), TABLE(row), PAD); };
+    add("projection", "plain", projection, [](Data &d) {
+        plain::By<Form>::projection(d.n, d.m, d.a.data(), d.first_zero.data(), d.plain_row.data(), d.work.data());
+    });
+    // Next to the library's own product, round by round: the cost in subset products.
+    add("projection", "subset product", projection, [](Data &d) {
+        return sps_subset_product(d.n, d.m, TABLE(a), TABLE(b), d.work.data(), d.entries, PAD) & 0xffffffff;
+    });
 
     auto union_ = [](Data &d) { return sps_union_product(d.n, d.m, TABLE(a), TABLE(b), RESULT, PAD); };
     auto plain_union = PLAIN_PRODUCT(union_product);
@@ -204,7 +212,7 @@ int main() {
     }
 
     std::printf("Medians of %d interleaved rounds. Plain forms refuse nothing and clear no pad; from exponential to\n"
-                "inverse they work by the scalar subset product. Duties: what the contract asks of a call besides its\n"
+                "projection they work by the scalar subset product. Duties: what the contract asks of a call besides its\n"
                 "product, that is testing every entry, the ceiling (subset product) and clearing the pad.\n\n", ROUNDS);
     std::printf("%-44s library / yardstick at n =     library's growth   n = 16 in subset\n", "");
     std::printf("%-17s %-16s %-10s %6u %6u %6u %6u     12 to 14  14 to 16   products        ms\n",

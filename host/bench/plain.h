@@ -73,6 +73,8 @@ struct By {
     static void composition(u32 n, u32 m, const u32 *a, const u32 *f, u32 *result, u32 *work);
     static void logarithm(u32 n, u32 m, const u32 *a, u32 *result, u32 *work);
     static void inverse(u32 n, u32 m, const u32 *a, u32 *result, u32 *work);
+    // Work: two tables more.
+    static void projection(u32 n, u32 m, const u32 *a, const u32 *b, u32 *row, u32 *work);
 
     static void sum(u32 n, u32 m, const u32 *a, const u32 *b, u32 *result);
     static void difference(u32 n, u32 m, const u32 *a, const u32 *b, u32 *result);

@@ -1,4 +1,4 @@
-// Exponential, composition, logarithm and inverse, by recursion on halves over the scalar subset product.
+// Exponential, composition, logarithm, inverse and projection, by recursion on halves over the scalar subset product.
 #include "plain.h"
 
 #include <algorithm>
@@ -52,6 +52,28 @@ void plain::By<Form>::inverse(u32 n, u32 m, const u32 *a, u32 *result, u32 *work
     std::vector<u32> f(n + 1, reciprocal(a[0], m));
     for (u32 k = 1; k <= n; k++) f[k] = mul_mod(mul_mod(m - k % m, f[0], m), f[k - 1], m);
     composition(n, m, a, f.data(), result, work);
+}
+
+// With k controls left there are n - k + 1 tables side by side. Each is the sum of the upper half of the old table of its number and
+// of a product: of the lower half of the old table before and of b's entries for the sets whose highest control is k.
+template <typename Form>
+void plain::By<Form>::projection(u32 n, u32 m, const u32 *a, const u32 *b, u32 *row, u32 *work) {
+    const Form form{m};
+    u32 *from = work + (std::size_t{2} * (n + 1) << n), *to = from + (std::size_t{1} << n);
+    std::copy(a, a + (std::size_t{1} << n), from);
+    for (u32 k = n; k-- > 0;) {
+        std::size_t size = std::size_t{1} << k;
+        std::copy(from + size, from + 2 * size, to);
+        for (u32 i = 0; i < n - k; i++) {
+            const u32 *old = from + 2 * i * size;
+            u32 *next = to + (i + 1) * size;
+            subset_product(k, m, old, b + size, next, work);
+            if (i + 1 == n - k) break;
+            for (std::size_t set = 0; set < size; set++) next[set] = form.add(next[set], old[3 * size + set]);
+        }
+        std::swap(from, to);
+    }
+    std::copy(from, from + n + 1, row);
 }
 
 template struct plain::By<plain::Below31>;

@@ -2,7 +2,8 @@
  *
  * The table says how many exercises there are for each set of controls. A session uses each control of the panel exactly
  * once, so the number of sessions is the whole panel's entry of the table's exponential. That number outgrows a machine
- * word; what is printed is its residue under several moduli, each by itself. */
+ * word; what is printed is its residue under several moduli, each by itself. Under the file's modulus also how the sessions
+ * divide by their number of exercises, which is the projection of the table that is 1 at the empty set, and of the file's. */
 #include <stdio.h>
 #include <stdlib.h>
 
@@ -54,6 +55,25 @@ static void count_sessions(uint32_t n, uint32_t m) {
     free(sessions);
 }
 
+static void divide_sessions(uint32_t n, uint32_t m) {
+    const size_t length = SPS_TABLE_LENGTH(n), pad_length = SPS_PAD_LENGTH(n);
+    uint32_t row[SPS_MOST_CONTROLS + 1];
+    uint32_t *one = calloc(length, sizeof *one);
+    uint32_t *pad = malloc(pad_length * sizeof *pad);
+    if (one == NULL || pad == NULL) exit(EXIT_FAILURE);
+
+    one[0] = 1;
+    uint32_t number = sps_projection(n, m, one, length, table, length, row, n + 1, pad, pad_length);
+    printf("by their number of exercises, modulo %lu:\n", (unsigned long)m);
+    if (number == SPS_ACCEPTED) {
+        for (uint32_t i = 0; i <= n; i++) printf("  %-2lu %lu\n", (unsigned long)i, (unsigned long)row[i]);
+    } else {
+        printf("  refused %lu\n", (unsigned long)number);
+    }
+    free(pad);
+    free(one);
+}
+
 static void show_sessions(uint32_t n, uint32_t m) {
     const uint32_t others[] = {998244353, 1000000006, 4294967295};
     printf("sessions of the whole panel:\n");
@@ -61,6 +81,7 @@ static void show_sessions(uint32_t n, uint32_t m) {
     for (size_t i = 0; i < sizeof others / sizeof *others; i++) {
         if (others[i] != m) count_sessions(n, others[i]);
     }
+    divide_sessions(n, m);
 }
 
 int main(int count, char **words) {

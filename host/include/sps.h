@@ -122,6 +122,17 @@ uint32_t sps_composition(uint32_t n, uint32_t m,
                          uint32_t *result, size_t result_len,
                          uint32_t *pad, size_t pad_len);
 
+/* How the sessions of the whole panel divide by their number of exercises: result is a row, and result[i] is the whole panel's
+ * entry of the subset product of a with the composition of b with the row that is 1 at place i and 0 elsewhere; that is, the
+ * sum of a[L] times the product of b over the blocks, over all sets L and all partitions of the other controls into i blocks.
+ * b[0] must be 0; a[0] may be any residue.  For each row f, the sum of f[i] * result[i] is the whole panel's entry of the subset
+ * product of a and the composition of b with f.  Refusals 1 to 6. */
+uint32_t sps_projection(uint32_t n, uint32_t m,
+                        const uint32_t *a, size_t a_len,
+                        const uint32_t *b, size_t b_len,
+                        uint32_t *result, size_t result_len,
+                        uint32_t *pad, size_t pad_len);
+
 /* ---- Table files ---------------------------------------------------------------------------------------------------
  * A file is n, then m, then the 2^n entries in rising code, then nothing.  A number is written in groups of seven bits,
  * lowest group first, one to a byte; the top bit is 1 when another group follows.  Only the shortest form is allowed, and

@@ -19,7 +19,7 @@ fn entry_by_entry(call: u8, n: u32, m: u32, a: &[u32], b: &[u32], result: &mut [
     }
 }
 
-// Union and xor product of tables, composition of a table and a row.
+// Union and xor product and projection of tables, composition of a table and a row.
 fn of_two(
     call: u8,
     n: u32,
@@ -33,6 +33,7 @@ fn of_two(
         b'u' => transforms::union_product(n, m, a, b, result, pad),
         b'x' => transforms::xor_product(n, m, a, b, result, pad),
         b'c' => series_calls::composition(n, m, a, b, result, pad),
+        b'p' => projection_calls::projection(n, m, a, b, result, pad),
         _ => entry_by_entry(call, n, m, a, b, result),
     }
 }

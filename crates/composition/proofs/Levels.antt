@@ -1,26 +1,27 @@
 -- The levels of a composition: the row itself, one level from the next, and the last.
-use mathlib.Core.Path.{_≡_, refl, sym, ap, ap₂, subst, _∙_, fun-ext}
+use mathlib.Core.Path.{_≡_, refl, sym, ap, ap₂, subst, _∙_}
 use mathlib.Core.List.{List}
 use mathlib.Core.Logic.{⊎-elim}
 use Prim.Native.Nat.{ℕ, suc, _+_, _-_, _*_, _%_, _^_, _<_, _≤_}
-use native.Mathlib.Nat.{mod-lt, mod-eq-of-lt, add-zero, zero-add}
+use native.Mathlib.Nat.{mod-lt, mod-eq-of-lt, add-zero}
 use native.Mathlib.Numerals.{add-one}
 use native.Mathlib.Omega.{arith}
 use lib.Arith.{lt-one}
-use lib.ListN.{length, take, drop, length-append, length-drop, List·getD-append}
+use lib.ListN.{length, take, drop, length-append, length-drop}
 use lib.Pow.{pow-mono}
 use lib.Seq.{length-take-le, drop-at, getD-take, getD-drop}
 use borrow.Rule.Slice.PartMut.{putMid}
 use Rattle.definitions.specs.Sums.{tabulate, at}
 use Rattle.definitions.specs.Partitions.{compositionSum, compositionTable}
 use Rattle.theory.specs.Tests.{below-or}
-use Rattle.theory.specs.Lists.{filled, filled-all, length-tabulate, at-tabulate, tabulate-of, residues-of}
+use Rattle.theory.specs.Lists.{filled, filled-at, filled-all, tabulate-of, residues-of}
 use Rattle.theory.specs.Parts.{part-behind, put-behind}
 use Rattle.theory.specs.Powers.{more-than, slots-fit}
+use Rattle.theory.specs.Halves.{from, from-none}
 use Rattle.theory.specs.Composition.{composition-empty}
 use Rattle.ranked_theory.specs.Layout.{rowsLength, rows-mono}
 use Rattle.composition.specs.Ready.{Ready, RowReady, ResultReady, resultIn}
-use Rattle.composition.specs.Slots.{from, Slots, Turned, TurnReady, LevelReady, LevelRaised}
+use Rattle.composition.specs.Slots.{Slots, Turned, TurnReady, LevelReady, LevelRaised}
 use Rattle.composition.proofs.Turns.{turned-old, turned-new}
 
 -- ---- one level
@@ -102,12 +103,6 @@ module _ {n m start : ℕ} {a f w₀ : List ℕ} (e : start ≡ rowsLength n) (d
   pub row-fits : (n + 1 ≤ length f) × (n + 1 ≤ length part)
   row-fits = (omega (arith, g .long), omega (arith, ap length (part-behind start w₀), length-drop start w₀, d .room, more-than n))
 
-  at-row : (i : ℕ) → i ≤ n → at (filled (at f) (n + 1) part) i ≡ at f i
-  unfolding filled
-  at-row i h =
-      List·getD-append (tabulate (n + 1) (at f)) (drop (n + 1) part) 0 i (omega (arith, length-tabulate (n + 1) (at f)))
-      ∙ at-tabulate (n + 1) (at f) i (omega arith)
-
   -- the row's entries are the tables of no controls
   pub composing-first : (r : List ℕ) → r ≡ filled (at f) (n + 1) part → length r ≡ length part
       → Composing n m start a f (putMid start (length w₀ - start) w₀ r) 0 (putMid start (length w₀ - start) w₀ r)
@@ -123,7 +118,7 @@ module _ {n m start : ℕ} {a f w₀ : List ℕ} (e : start ≡ rowsLength n) (d
           slot = λ i S z h c.
               let none : S ≡ 0 = lt-one c in
               let place : i * 2 ^ 0 + S ≡ i = omega arith in
-              ap (at r) place ∙ ap (λ (t : List ℕ). at t i) is ∙ at-row i (omega arith) ∙ sym (mod-eq-of-lt (g .below i (omega arith)))
+              ap (at r) place ∙ ap (λ (t : List ℕ). at t i) is ∙ filled-at (at f) (n + 1) part i (omega arith) ∙ sym (mod-eq-of-lt (g .below i (omega arith)))
               ∙ ap (λ (x : ℕ). at f x % m) (sym (add-zero i)) ∙ ap (λ (x : ℕ). x % m) (sym (composition-empty 0 (from i (at f)) (at a)))
               ∙ ap (λ (x : ℕ). compositionSum 0 (from i (at f)) (at a) x % m) (sym none);
         });
@@ -162,7 +157,7 @@ module _ {n m start : ℕ} {a f w₀ : List ℕ} (e : start ≡ rowsLength n) (d
         ∙ residues-of n m (take (2 ^ n) (drop start w)) _ long (λ S c.
         let place : 0 * 2 ^ n + S ≡ S = omega arith in
         getD-take (2 ^ n) (drop start w) S 0 c ∙ ap (at (drop start w)) (sym place) ∙ slots .slot 0 S (omega arith) (omega arith) c
-        ∙ ap (λ (e : ℕ → ℕ). compositionSum n e (at a) S % m) (fun-ext (λ j. ap (at f) (zero-add j))))
+        ∙ ap (λ (e : ℕ → ℕ). compositionSum n e (at a) S % m) (from-none (at f)))
 
 -- ---- the result
 

@@ -1,9 +1,9 @@
 -- One step of the composition: slots i and i + 1 of 2 ^ k numbers become slot i of 2 ^ (k + 1), which is slots 2i and 2i + 1.
-use mathlib.Core.Path.{_≡_, sym, ap, _∙_, fun-ext}
+use mathlib.Core.Path.{_≡_, sym, ap, _∙_}
 use mathlib.Core.List.{List}
 use mathlib.Core.Logic.{⊎-elim}
 use Prim.Native.Nat.{ℕ, zero, suc, _+_, _*_, _%_, _^_, _<_, _≤_}
-use native.Mathlib.Nat.{mod-mod, mul-le-mul-right, eq-or-lt-of-le, add-suc, suc-add}
+use native.Mathlib.Nat.{mod-mod, mul-le-mul-right, eq-or-lt-of-le}
 use native.Mathlib.Omega.{arith}
 use Rattle.definitions.specs.Sums.{at}
 use Rattle.definitions.specs.Partitions.{compositionSum}
@@ -11,16 +11,13 @@ use Rattle.theory.specs.Lists.{at-residues}
 use Rattle.theory.specs.Parts.{at-part}
 use Rattle.theory.specs.Powers.{two-slots}
 use Rattle.theory.specs.Codes.{by-top}
-use Rattle.theory.specs.Halves.{Row, shift}
+use Rattle.theory.specs.Halves.{Row, from, from-next}
 use Rattle.theory.specs.Composition.{composition-lo}
 use Rattle.ranked_within.specs.Within.{tableAt}
-use Rattle.composition.specs.Slots.{from, Slots, Turned}
+use Rattle.composition.specs.Slots.{Slots, Turned}
 use Rattle.composition.proofs.Upper.{composition-upper}
 
 module _ (m k : ℕ) (f : ℕ → ℕ) (a r s : List ℕ) where
-  shifted : (i : ℕ) → from (suc i) f ≡ shift (from i f)
-  shifted i = fun-ext (λ j. ap f (suc-add i j ∙ sym (add-suc i j)))
-
   -- what is still to be read stands
   pub turned-old : (i : ℕ) → Turned k i m a r s → Slots m k 0 (suc (suc i)) f (at a) r → Slots m k 0 (suc i) f (at a) s
   turned-old zero t o = record {
@@ -55,5 +52,5 @@ module _ (m k : ℕ) (f : ℕ → ℕ) (a r s : List ℕ) where
           rw e (t .upper R h ∙ at-residues k m _ R h
           ∙ composition-upper k m (from i f) (at a) (tableAt k (suc i * 2 ^ k) r) (tableAt k (2 ^ k) a)
           (λ S g. ap (λ (x : ℕ). x % m) (at-part (suc i * 2 ^ k) (2 ^ k) r S g ∙ o .slot (suc i) S (omega arith) (omega arith) g) ∙ mod-mod _ m
-          ∙ ap (λ (g : Row). compositionSum k g (at a) S % m) (shifted i))
+          ∙ ap (λ (g : Row). compositionSum k g (at a) S % m) (from-next i f))
           (λ S g. at-part (2 ^ k) (2 ^ k) a S g) R h))

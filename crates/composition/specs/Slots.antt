@@ -8,6 +8,7 @@ use Rattle.definitions.specs.Limits.{mostControls}
 use Rattle.definitions.specs.Sums.{at}
 use Rattle.definitions.specs.Products.{subsetTable}
 use Rattle.definitions.specs.Partitions.{compositionSum}
+use Rattle.theory.specs.Halves.{from}
 use Rattle.ranked_theory.specs.Layout.{rowsLength}
 use Rattle.ranked_within.specs.Within.{tableAt}
 
@@ -42,10 +43,6 @@ pub record Turned (k i m : ℕ) (a r s : List ℕ) : Type 0 where
   pub behind : (x : ℕ) → 2 * (i * 2 ^ k) + 2 * 2 ^ k ≤ x → at s x ≡ at r x
 
 -- ---- a level: the tables of k controls
-
--- the row f from its entry i on
-abbrev pub from : ℕ → (ℕ → ℕ) → ℕ → ℕ
-from i f k = f (i + k)
 
 -- slot i of 2 ^ k numbers holds the composition of the first k controls' sets with the row from i on, for low ≤ i < high
 pub record Slots (m k low high : ℕ) (f A : ℕ → ℕ) (r : List ℕ) : Type 0 where

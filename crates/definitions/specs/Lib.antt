@@ -4,6 +4,7 @@ pub mod Sets
 pub mod Products
 pub mod Rows
 pub mod Partitions
+pub mod Projection
 pub mod Refusals
 pub mod Outcomes
 pub mod Groups

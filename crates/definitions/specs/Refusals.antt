@@ -141,6 +141,21 @@ compositionNumber n m a f r p =
     ∷ startWord 0 a
     ∷ [])
 
+-- the result is a row, and the first entry of b alone counts
+unfoldable pub projectionNumber : ℕ → ℕ → List ℕ → List ℕ → ℕ → ℕ → ℕ
+projectionNumber n m a b r p =
+    firstWord
+    (panelWord n
+    ∷ modulusWord m
+    ∷ tableWord n (length a)
+    ∷ tableWord n (length b)
+    ∷ rowWord n r
+    ∷ padWord n p
+    ∷ entryWord m a
+    ∷ entryWord m b
+    ∷ startWord 0 b
+    ∷ [])
+
 -- ---- what is left in lent memory
 
 -- what a slice holds after a call with this number: the new contents if it is accepted, else what it held

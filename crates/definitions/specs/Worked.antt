@@ -1,4 +1,4 @@
--- 01's entries worked by hand, as one theorem of the definitions.
+-- 01's entries worked by hand, as one theorem of the definitions; and projections worked by hand.
 use mathlib.Core.Path.{_≡_, refl}
 use mathlib.Core.List.{List, [], _∷_, flatMap}
 use Prim.Native.Nat.{ℕ}
@@ -8,6 +8,7 @@ use Rattle.definitions.specs.Sets.{inside, subsets}
 use Rattle.definitions.specs.Products.{residues, subsetSum, pairSum, subsetTable, unionTable, xorTable, degree, degreeBound}
 use Rattle.definitions.specs.Rows.{choose, binomialSum, binomialRow}
 use Rattle.definitions.specs.Partitions.{partitions, blockProduct, compositionSum, compositionTable, exponentialTable, allBelow, IsLogarithm, IsInverse}
+use Rattle.definitions.specs.Projection.{oneRow, wholeEntry, projectionEntry, projectionRow}
 
 -- a call with its inputs and what it gives
 pub data Case : Type 0 where
@@ -16,6 +17,7 @@ pub data Case : Type 0 where
   composition : (n m : ℕ) (A f H : List ℕ) → Case
   binomial : (n m : ℕ) (f g h : List ℕ) → Case
   ceiling : (n : ℕ) (A B : List ℕ) (c : ℕ) → Case
+  projection : (n m : ℕ) (A B h : List ℕ) → Case
 
 -- what the definitions say of it
 abbrev pub Holds : Case → Type 0
@@ -28,6 +30,7 @@ Holds (logarithm n m E H) = IsLogarithm n m E H
 Holds (composition n m A f H) = compositionTable n m f A ≡ H
 Holds (binomial n m f g h) = binomialRow n m f g ≡ h
 Holds (ceiling n A B c) = degreeBound n A B ≡ c
+Holds (projection n m A B h) = projectionRow n m A B ≡ h
 
 -- every case of a list holds
 abbrev pub AllHold : List Case → Type 0
@@ -82,3 +85,18 @@ worked = (
     ),
   ),
 )
+
+-- Of P and R: with no exercise, P's own 4; with one, 1 · 4 + 2 · 3 + 3 · 2; with two, 1 · 2 · 3. The same under m = 5. With A = [1, 0, ..]
+-- the sessions of the panel itself: R's; with one exercise for each set, the partitions of three controls by their number of blocks.
+abbrev pub projections : List Case
+projections =
+    projection 2 101 P R (4 ∷ 16 ∷ 6 ∷ [])
+    ∷ projection 2 5 P R (4 ∷ 1 ∷ 1 ∷ [])
+    ∷ projection 2 101 (1 ∷ 0 ∷ 0 ∷ 0 ∷ []) R (0 ∷ 4 ∷ 6 ∷ [])
+    ∷ projection 3 101 (1 ∷ 0 ∷ 0 ∷ 0 ∷ 0 ∷ 0 ∷ 0 ∷ 0 ∷ []) (0 ∷ 1 ∷ 1 ∷ 1 ∷ 1 ∷ 1 ∷ 1 ∷ 1 ∷ []) (0 ∷ 1 ∷ 3 ∷ 1 ∷ [])
+    ∷ projection 0 5 (3 ∷ []) (0 ∷ []) (3 ∷ [])
+    ∷ []
+
+pub worked-projections : AllHold projections
+unfolding residues tabulate subsetSum sum inside compositionSum listSum partitions subsets keep blockProduct flatMap oneRow wholeEntry projectionEntry projectionRow
+worked-projections = (refl, (refl, (refl, (refl, (refl, tt)))))

@@ -47,3 +47,26 @@ pub fn composition_table(a: &[u32], f: &[u32], m: u32, result: &mut [u32]) {
 pub fn exponential_table(a: &[u32], m: u32, result: &mut [u32]) {
     composition_table(a, &[1; 17], m, result);
 }
+
+// The sum over all sets l, of a[l] times the sum over the partitions of the other controls into i blocks.
+fn projection_entry(i: usize, a: &[u32], b: &[u32], m: u32) -> u32 {
+    let mut row = [0u32; 17];
+    set_entry(&mut row, i, 1);
+    let mut sum: u32 = 0;
+    let mut l = 0;
+    while l < a.len() {
+        let others = a.len() - 1 - l;
+        sum = plus(sum, over_rest(b, &row, m, others, entry(a, l)), m);
+        l += 1;
+    }
+    sum
+}
+
+pub fn projection_row(a: &[u32], b: &[u32], m: u32, result: &mut [u32]) {
+    let mut i = 0;
+    while i < result.len() {
+        let x = projection_entry(i, a, b, m);
+        set_entry(result, i, x);
+        i += 1;
+    }
+}

@@ -4,7 +4,8 @@ ghost use lib.ListN.{length};
 ghost use Rattle.definitions.specs.Products.{sumTable, differenceTable, subsetTable, unionTable, xorTable, degreeBound};
 ghost use Rattle.definitions.specs.Rows.{binomialRow};
 ghost use Rattle.definitions.specs.Partitions.{exponentialTable, compositionTable, IsLogarithm, IsInverse};
-ghost use Rattle.definitions.specs.Refusals.{sumNumber, binomialNumber, productNumber, xorNumber, exponentialNumber, logarithmNumber, compositionNumber, inverseNumber, after, valueAfter, padAfter};
+ghost use Rattle.definitions.specs.Projection.{projectionRow};
+ghost use Rattle.definitions.specs.Refusals.{sumNumber, binomialNumber, productNumber, xorNumber, exponentialNumber, logarithmNumber, compositionNumber, inverseNumber, projectionNumber, after, valueAfter, padAfter};
 ghost use Rattle.definitions.specs.Files.{headerNumber, headerControls, headerModulus, packed, readerNumber, readerControls, readerModulus, tableRead, writerNumber, writtenCount, writtenBuffer};
 ghost use Rattle.theory.specs.Logarithm.{logarithmOf};
 ghost use Rattle.series_calls.specs.InverseTables.{inverseTable};
@@ -153,6 +154,22 @@ pub extern "C" fn sps_inverse(n: u32, m: u32, a: &[u32], result: &mut [u32], pad
     ensures { λ r. ⌜ now (pad .exit) ≡ padAfter r n (now (pad .entry)) ⌝ }
 {
     series_calls::inverse(n, m, a, result, pad)
+}
+
+#[no_mangle]
+pub extern "C" fn sps_projection(
+    n: u32,
+    m: u32,
+    a: &[u32],
+    b: &[u32],
+    result: &mut [u32],
+    pad: &mut [u32],
+) -> u32
+    ensures { λ r. ⌜ r ≡ projectionNumber n m (now (a .entry)) (now (b .entry)) (length (now (result .entry))) (length (now (pad .entry))) ⌝ }
+    ensures { λ r. ⌜ now (result .exit) ≡ after r (projectionRow n m (now (a .entry)) (now (b .entry))) (now (result .entry)) ⌝ }
+    ensures { λ r. ⌜ now (pad .exit) ≡ padAfter r n (now (pad .entry)) ⌝ }
+{
+    projection_calls::projection(n, m, a, b, result, pad)
 }
 
 #[no_mangle]

@@ -2,10 +2,11 @@
 -- All in natural numbers, exact.
 --   Table, zeros, scalar, add, mul     sum and subset product; laws: a commutative semiring
 --   Row, conv, comp                    rows of numbers, their binomial product, and composition with a row
+--   from, from-none, from-next         a row from one of its entries on
 --   comp-conv, exp-add                 composition takes binomial products, and the exponential sums, to products
 --   null, one, linear                  the rows 0, 0, ..; 1, 0, 0, ..; a, 1, 0, .. and what composition with them gives
 --   tab                                the table of a function of codes; tab-ext, tab-inj, tab-add, tab-empty, tab-unit
-use mathlib.Core.Path.{_≡_, refl, ap, ap₂, _∙_}
+use mathlib.Core.Path.{_≡_, refl, sym, ap, ap₂, _∙_, fun-ext}
 use mathlib.Core.Bool.{cond}
 use Prim.Native.Nat.{ℕ, zero, suc, _+_, _*_, _^_, _<_}
 use native.Mathlib.Nat as N
@@ -59,6 +60,16 @@ Row = ℕ → ℕ
 
 abbrev pub shift : Row → Row
 shift f k = f (suc k)
+
+-- the row from its entry i on
+abbrev pub from : ℕ → Row → Row
+from i f k = f (i + k)
+
+pub from-none : (f : Row) → from 0 f ≡ f
+from-none f = fun-ext (λ k. ap f (N.zero-add k))
+
+pub from-next : (i : ℕ) (f : Row) → from (suc i) f ≡ shift (from i f)
+from-next i f = fun-ext (λ k. ap f (N.suc-add i k ∙ sym (N.add-suc i k)))
 
 abbrev plus : Row → Row → Row
 plus f g k = f k + g k

@@ -1,7 +1,8 @@
 -- Lists by a rule for their entries, and tables of remainders.
 --   tabulate   length, at, ext, append, self, of (a list that agrees with a rule at each place), set (one entry, by another rule)
 --   filled     a list whose first entries are set by a rule: what a loop that sets one entry a turn has so far
---              (filled-none before it, turn for one turn, filled-block for a block, part, filled-all and whole at its end)
+--              (filled-none before it, turn for one turn, filled-block for a block, part, filled-all and whole at its end;
+--              filled-at and at-filled what stands where)
 --   residues   length, at, ext, self, of, filled, halves
 use mathlib.Core.Path.{_≡_, refl, sym, _∙_, ap, ap₂}
 use mathlib.Core.List.{List, [], _∷_, _++_, append-assoc, append-nil}
@@ -90,6 +91,11 @@ filled-block f i w r =
     let l : length (tabulate i f) ≡ i = length-tabulate i f in
     rw (take-at (tabulate i f) (drop i r) i l, ← drop-drop w i (tabulate i f ++ drop i r), drop-at (tabulate i f) (drop i r) i l, drop-drop w i r, tabulate-append i w f)
     (sym (append-assoc (tabulate i f) (tabulate w (λ t. f (i + t))) (drop (i + w) r)))
+
+-- the places that are filled go by the rule
+pub filled-at : (f : ℕ → ℕ) (i : ℕ) (r : List ℕ) (j : ℕ) → j < i → at (filled f i r) j ≡ f j
+unfolding filled
+filled-at f i r j h = List·getD-append (tabulate i f) (drop i r) 0 j (omega (arith, length-tabulate i f)) ∙ at-tabulate i f j h
 
 -- the places that are not yet filled are as they were
 pub at-filled : (f : ℕ → ℕ) (i : ℕ) (r : List ℕ) (j : ℕ) → at (filled f i r) (i + j) ≡ at r (i + j)

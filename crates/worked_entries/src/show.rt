@@ -12,10 +12,9 @@ fn between(before: u8, list: &[u32], after: u8) {
 
 // A row in round brackets, a table in square ones.
 fn list(line: &[u8], result: &[u32]) {
-    if lines::call(line) == b'b' {
-        between(b'(', result, b')');
-    } else {
-        between(b'[', result, b']');
+    match lines::call(line) {
+        b'b' | b'p' => between(b'(', result, b')'),
+        _ => between(b'[', result, b']'),
     }
 }
 

@@ -1,4 +1,4 @@
-//! The ten calls on tables and rows in one form: what each is lent, how it is run between guards, and what holds of every
+//! The calls on tables and rows in one form: what each is lent, how it is run between guards, and what holds of every
 //! outcome.
 
 use crate::ffi;
@@ -19,6 +19,7 @@ pub enum Call {
     Logarithm,
     Inverse,
     Composition,
+    Projection,
 }
 
 #[derive(Clone, Copy, Debug, PartialEq)]
@@ -58,11 +59,15 @@ impl Call {
     }
 
     pub fn result(self) -> Shape {
-        if self == Call::BinomialProduct {
-            Shape::Row
-        } else {
-            Shape::Table
+        match self {
+            Call::BinomialProduct | Call::Projection => Shape::Row,
+            _ => Shape::Table,
         }
+    }
+
+    /// Which input has the first entry that the call looks at, if it looks at one.
+    pub fn started(self) -> usize {
+        usize::from(self == Call::Projection)
     }
 
     pub fn has_pad(self) -> bool {
@@ -92,6 +97,7 @@ impl Call {
             Call::Logarithm => partitions::logarithm(m, a),
             Call::Inverse => products::inverse(m, a),
             Call::Composition => partitions::composition(m, a, b),
+            Call::Projection => partitions::projection(m, a, b),
         }
     }
 
@@ -111,6 +117,7 @@ impl Call {
             Call::Logarithm => ffi::logarithm(n, m, a, result, pad),
             Call::Inverse => ffi::inverse(n, m, a, result, pad),
             Call::Composition => ffi::composition(n, m, a, b, result, pad),
+            Call::Projection => ffi::projection(n, m, a, b, result, pad),
         };
         (number, 0)
     }
@@ -176,9 +183,9 @@ impl Case {
     }
 
     fn set_first(&mut self, call: Call, random: &mut Random) {
-        let first = &mut self.inputs[0][0];
+        let first = &mut self.inputs[call.started()][0];
         match call {
-            Call::Exponential | Call::Composition => *first = 0,
+            Call::Exponential | Call::Composition | Call::Projection => *first = 0,
             Call::Logarithm => *first = 1,
             Call::Inverse => {
                 while greatest_common_divisor(*first, self.m) > 1 {
@@ -186,6 +193,22 @@ impl Case {
                 }
             }
             _ => {}
+        }
+    }
+}
+
+/// What result and pad held beforehand does not matter, nor how much longer the pad is, nor that the inputs are one slice.
+pub fn whatever_was_lent(call: Call) {
+    let random = &mut Random::new(7);
+    for n in 0..=9 {
+        for tail in [0, 1, 1000] {
+            let mut case = Case::filled(call, n, 4_294_967_295, [Fill::Uniform; 2], random);
+            let both = case.inputs[call.started()].clone();
+            case.inputs.fill(both);
+            case.same_slice = tail == 1;
+            case.pad.resize(case.pad.len() - 5 + tail, 0);
+            case.pad.iter_mut().chain(&mut case.result).for_each(|entry| *entry = random.word());
+            call.compare(&case);
         }
     }
 }
@@ -198,10 +221,10 @@ pub fn assert_same(found: &[u32], expected: &[u32], about: impl Fn() -> String) 
     }
 }
 
-/// The ten calls, with the name that a test of each has.
+/// The calls, with the name that a test of each has.
 macro_rules! for_each_call {
     ($($name:ident $call:ident;)*) => {
-        /// Makes a test of `$check`, a function of the call, for each of the ten calls.
+        /// Makes a test of `$check`, a function of the call, for each of the calls.
         macro_rules! each_call {
             ($check:path) => {
                 $(
@@ -226,4 +249,5 @@ for_each_call! {
     logarithm Logarithm;
     inverse Inverse;
     composition Composition;
+    projection Projection;
 }

@@ -23,6 +23,8 @@ mod raw {
             result: *mut u32, result_len: usize, pad: *mut u32, pad_len: usize) -> u32;
         pub fn sps_composition(n: u32, m: u32, a: *const u32, a_len: usize, f: *const u32, f_len: usize,
             result: *mut u32, result_len: usize, pad: *mut u32, pad_len: usize) -> u32;
+        pub fn sps_projection(n: u32, m: u32, a: *const u32, a_len: usize, b: *const u32, b_len: usize,
+            result: *mut u32, result_len: usize, pad: *mut u32, pad_len: usize) -> u32;
         pub fn sps_header_check(bytes: *const u8, len: usize) -> u64;
         pub fn sps_read_table(bytes: *const u8, len: usize, table: *mut u32, table_len: usize) -> u64;
         pub fn sps_write_table(n: u32, m: u32, table: *const u32, table_len: usize,
@@ -62,6 +64,7 @@ of_two_inputs!(union_product, sps_union_product -> u32, pad);
 of_two_inputs!(xor_product, sps_xor_product -> u32, pad);
 of_two_inputs!(binomial_product, sps_binomial_product -> u32);
 of_two_inputs!(composition, sps_composition -> u32, pad);
+of_two_inputs!(projection, sps_projection -> u32, pad);
 of_one_input!(exponential, sps_exponential);
 of_one_input!(logarithm, sps_logarithm);
 of_one_input!(inverse, sps_inverse);

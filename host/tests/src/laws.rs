@@ -2,6 +2,7 @@
 
 use crate::calls::{assert_same, Call, Case};
 use crate::random::{Fill, Random};
+use crate::reference::{plus, times};
 
 const PANELS: std::ops::RangeInclusive<u32> = 0..=16;
 const MODULI: [u32; 8] = [4_294_967_295, 4_294_967_294, 4_294_967_291, 3_037_000_499, 2, 3, 6, 30030];
@@ -94,5 +95,18 @@ fn difference_undoes_the_sum() {
         let (a, b) = (table(n, m, 0, random), table(n, m, 1, random));
         let sum = result(Call::Sum, n, m, &[&a, &b]);
         assert_same(&result(Call::Difference, n, m, &[&sum, &b]), &a, || format!("n = {n}, m = {m}"));
+    });
+}
+
+/// For each row f, the sum of f[i] times the projection's entry i is the whole panel's entry of a times b composed with f.
+#[test]
+fn projection_sums_to_the_whole_panel_of_a_composition() {
+    for_each_panel(|n, m, random| {
+        let first = random.residue(m);
+        let (a, b, f) = (table(n, m, first, random), table(n, m, 0, random), row(n, m, random));
+        let projection = result(Call::Projection, n, m, &[&a, &b]);
+        let sum = f.iter().zip(&projection).fold(0, |sum, (&x, &y)| plus(sum, times(x, y, m), m));
+        let product = result(Call::SubsetProduct, n, m, &[&a, &result(Call::Composition, n, m, &[&b, &f])]);
+        assert_eq!(sum, product[(1 << n) - 1], "n = {n}, m = {m}");
     });
 }

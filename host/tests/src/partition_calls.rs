@@ -1,9 +1,10 @@
-//! Exponential, logarithm, inverse and composition against partitions listed one by one and tables solved for.
+//! Exponential, logarithm, inverse, composition and projection against partitions listed one by one and tables solved for.
 
-use crate::calls::{assert_same, Call, Case};
+use crate::calls::{assert_same, whatever_was_lent, Call, Case};
 use crate::random::{Fill, Random, FILLS};
-use crate::reference::partitions::{composition_by_blocks, exponential_by_blocks};
+use crate::reference::partitions::{composition_by_blocks, exponential_by_blocks, projection_by_blocks, whole_entry};
 use crate::reference::products::subset_product;
+use crate::reference::{plus, times};
 
 fn small_panels(call: Call) {
     let random = &mut Random::new(13);
@@ -55,6 +56,11 @@ fn inverse() {
 #[test]
 fn composition() {
     both(Call::Composition);
+}
+
+#[test]
+fn projection() {
+    both(Call::Projection);
 }
 
 /// Euclid's coefficients near the largest modulus: small first entries, ones near m, near its half and near m divided by the
@@ -119,4 +125,36 @@ fn inverse_of_large_panels() {
         let product = subset_product(m, &case.inputs[0], &Call::Inverse.run(&case).result);
         assert_same(&product, &unit, || format!("inverse with n = {n}, m = {m}"));
     }
+}
+
+#[test]
+fn projection_of_large_panels() {
+    let random = &mut Random::new(33);
+    for (n, m) in LARGE.into_iter().filter(|(n, _)| *n <= 14) {
+        let case = Case::filled(Call::Projection, n, m, [Fill::Uniform; 2], random);
+        let expected = projection_by_blocks(m, &case.inputs[0], &case.inputs[1]);
+        assert_same(&Call::Projection.run(&case).result, &expected, || format!("projection with n = {n}, m = {m}"));
+    }
+}
+
+/// Where that takes too long: the sum of x^i times entry i is the whole-panel entry of the product of a and the exponential of
+/// x times b.
+#[test]
+fn projection_of_the_largest_panels() {
+    let random = &mut Random::new(34);
+    for (n, m) in [(15, 4_294_967_295), (16, 4_294_967_294)] {
+        let case = Case::filled(Call::Projection, n, m, [Fill::Uniform; 2], random);
+        let (a, b) = (&case.inputs[0], &case.inputs[1]);
+        let row = Call::Projection.run(&case).result;
+        for x in [1, random.residue(m)] {
+            let sum = row.iter().rev().fold(0, |sum, &entry| plus(times(sum, x, m), entry, m));
+            let scaled: Vec<u32> = b.iter().map(|&entry| times(x, entry, m)).collect();
+            assert_eq!(sum, whole_entry(m, a, &exponential_by_blocks(m, &scaled)), "n = {n}, m = {m}, x = {x}");
+        }
+    }
+}
+
+#[test]
+fn projection_whatever_was_lent() {
+    whatever_was_lent(Call::Projection);
 }

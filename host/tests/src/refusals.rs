@@ -1,4 +1,4 @@
-//! Every refusal of the ten calls on tables and rows, alone, in pairs and in random company; and what is just accepted.
+//! Every refusal of the calls on tables and rows, alone, in pairs and in random company; and what is just accepted.
 
 use crate::calls::{each_call, Call, Case};
 use crate::random::{Fill, Random};
@@ -26,7 +26,7 @@ fn damages(call: Call, n: u32, m: u32) -> Vec<Damage> {
         }));
     }
     for first in wrong_first_entries(call, m) {
-        all.push(damage(6, move |case| case.inputs[0][0] = first));
+        all.push(damage(6, move |case| case.inputs[call.started()][0] = first));
     }
     for (input, shape) in call.inputs().iter().enumerate() {
         let length = shape.length(n);
@@ -56,7 +56,7 @@ fn damages(call: Call, n: u32, m: u32) -> Vec<Damage> {
 
 fn wrong_first_entries(call: Call, m: u32) -> Vec<u32> {
     match call {
-        Call::Exponential | Call::Composition => vec![1, m - 1],
+        Call::Exponential | Call::Composition | Call::Projection => vec![1, m - 1],
         Call::Logarithm if m == 2 => vec![0],
         Call::Logarithm => vec![0, m - 1],
         Call::Inverse => (0..m.min(50)).filter(|&first| greatest_common_divisor(first, m) > 1).collect(),
@@ -103,13 +103,24 @@ fn panel_too_large(call: Call) {
     assert_eq!(call.run(&case).number, 1);
 }
 
+/// On the largest panel: a pad of W entries is enough, and every refusal by itself.
+fn on_the_largest_panel(call: Call) {
+    let (n, m) = (16, 101);
+    let mut case = Case::filled(call, n, m, [Fill::Uniform; 2], &mut Random::new(36));
+    case.pad.truncate(pad_length(n));
+    try_damaged(call, &case, &[]);
+    for damage in damages(call, n, m) {
+        try_damaged(call, &case, &[&damage]);
+    }
+}
+
 /// Which first entries a call takes, for every modulus up to 40; by the divisors themselves.
 fn every_first_entry(call: Call) {
     for m in 2..=40 {
         for first in 0..m {
             let shares = (2..=m).any(|d| m % d == 0 && first % d == 0);
             let taken = match call {
-                Call::Exponential | Call::Composition => first == 0,
+                Call::Exponential | Call::Composition | Call::Projection => first == 0,
                 Call::Logarithm => first == 1,
                 Call::Inverse => !shares,
                 Call::XorProduct => m % 2 == 1,
@@ -131,6 +142,10 @@ fn every_first_entry(call: Call) {
 
 mod alone_and_in_pairs {
     super::each_call!(super::every_refusal);
+}
+
+mod sixteen_controls {
+    super::each_call!(super::on_the_largest_panel);
 }
 
 mod seventeen_controls {

@@ -63,6 +63,16 @@ fn entry_8_binomial_product() {
     gives(Call::BinomialProduct, 101, &[&[1, 0, 5], &[1, 1, 1]], &[1, 1, 6]);
 }
 
+/// Of P and R: with no exercise, P's own 4; with one, 1 · 4 + 2 · 3 + 3 · 2; with two, 1 · 2 · 3.
+#[test]
+fn projection() {
+    gives(Call::Projection, 101, &[&P, &R], &[4, 16, 6]);
+    gives(Call::Projection, 5, &[&[3], &[0]], &[3]);
+    gives(Call::Projection, 2, &[&[1, 1, 1, 1], &[0, 1, 1, 1]], &[1, 1, 1]);
+    let largest = 4_294_967_294;
+    gives(Call::Projection, 4_294_967_295, &[&[largest; 4], &[0, largest, largest, largest]], &[largest, 3, largest]);
+}
+
 /// Ranks cut too short leave overlapping pairs in; a ceiling of n every time is no ceiling.
 #[test]
 fn slips_of_the_subset_product() {

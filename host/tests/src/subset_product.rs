@@ -1,6 +1,6 @@
 //! The subset product against its pairs added up directly.
 
-use crate::calls::{Call, Case};
+use crate::calls::{self, Call, Case};
 use crate::random::{Fill, Random, FILLS};
 
 const CALL: Call = Call::SubsetProduct;
@@ -62,18 +62,7 @@ fn single_sets() {
     }
 }
 
-/// What result and pad held beforehand does not matter, nor how much longer the pad is, nor that the inputs are one slice.
 #[test]
 fn whatever_was_lent() {
-    let random = &mut Random::new(7);
-    for n in 0..=9 {
-        for tail in [0, 1, 1000] {
-            let mut case = Case::filled(CALL, n, 4_294_967_295, [Fill::Uniform; 2], random);
-            case.inputs[1] = case.inputs[0].clone();
-            case.same_slice = tail == 1;
-            case.pad.resize(case.pad.len() - 5 + tail, 0);
-            case.pad.iter_mut().chain(&mut case.result).for_each(|entry| *entry = random.word());
-            CALL.compare(&case);
-        }
-    }
+    calls::whatever_was_lent(CALL);
 }

@@ -1,6 +1,6 @@
 //! Sums over partitions.
 
-use super::products::subsets;
+use super::products::{subset_product, subsets};
 use super::{minus, plus, times};
 
 /// Shows `visit` the blocks of each partition of the set, each partition once: every control in turn joins a block that is
@@ -58,19 +58,43 @@ pub fn logarithm(m: u32, e: &[u32]) -> Vec<u32> {
     a
 }
 
-/// The composition for larger panels, by the block that has the set's lowest control; the number of blocks goes up one
-/// by one.
+/// Entry i is the whole-panel entry of the subset product of a with the composition of b with the row that is 1 at place i.
+pub fn projection(m: u32, a: &[u32], b: &[u32]) -> Vec<u32> {
+    let controls = a.len().trailing_zeros() as usize;
+    let one_at = |i| (0..=controls).map(|k| u32::from(k == i)).collect::<Vec<_>>();
+    let entry = |i| *subset_product(m, a, &composition(m, b, &one_at(i))).last().unwrap();
+    (0..=controls).map(entry).collect()
+}
+
+/// For larger panels: the sums over the partitions into 0 blocks, 1 block, 2 blocks and so on, by the block that has the set's
+/// lowest control.
+fn tables_by_blocks(m: u32, a: &[u32]) -> impl Iterator<Item = Vec<u32>> + '_ {
+    let mut none = vec![0; a.len()];
+    none[0] = 1 % m;
+    let one_more = move |rest: &Vec<u32>| Some((0..a.len()).map(|set| with_first_block(set, m, a, rest)).collect());
+    std::iter::successors(Some(none), one_more)
+}
+
+/// The composition for larger panels; the number of blocks goes up one by one.
 pub fn composition_by_blocks(m: u32, a: &[u32], f: &[u32]) -> Vec<u32> {
-    let mut with_blocks = vec![0; a.len()];
-    with_blocks[0] = 1 % m;
     let mut result = vec![0; a.len()];
-    for weight in f {
-        for (entry, &count) in result.iter_mut().zip(&with_blocks) {
-            *entry = plus(*entry, times(*weight, count, m), m);
+    for (&weight, table) in f.iter().zip(tables_by_blocks(m, a)) {
+        for (entry, &count) in result.iter_mut().zip(&table) {
+            *entry = plus(*entry, times(weight, count, m), m);
         }
-        with_blocks = (0..a.len()).map(|set| with_first_block(set, m, a, &with_blocks)).collect();
     }
     result
+}
+
+/// The projection for larger panels.
+pub fn projection_by_blocks(m: u32, a: &[u32], b: &[u32]) -> Vec<u32> {
+    let controls = a.len().trailing_zeros() as usize;
+    tables_by_blocks(m, b).take(controls + 1).map(|table| whole_entry(m, a, &table)).collect()
+}
+
+/// The whole-panel entry of the subset product: each set with all the other controls.
+pub fn whole_entry(m: u32, a: &[u32], b: &[u32]) -> u32 {
+    a.iter().zip(b.iter().rev()).fold(0, |sum, (&x, &y)| plus(sum, times(x, y, m), m))
 }
 
 /// The exponential for larger panels, by the block that has the set's lowest control.
@@ -106,5 +130,6 @@ fn both_ways_to_sum_over_partitions_agree() {
         let f: Vec<u32> = (0..=n as u32).map(|k| (5 * k + 3) % m).collect();
         assert_eq!(composition(m, &a, &f), composition_by_blocks(m, &a, &f));
         assert_eq!(exponential(m, &a), exponential_by_blocks(m, &a));
+        assert_eq!(projection(m, &a, &a), projection_by_blocks(m, &a, &a));
     }
 }

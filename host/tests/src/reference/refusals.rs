@@ -17,7 +17,7 @@ pub fn number(call: Call, case: &Case) -> u32 {
         return 1;
     }
     let inputs_fit = inputs.iter().zip(call.inputs()).all(|(input, shape)| input.len() == shape.length(*n));
-    let first = || inputs[0][0];
+    let first = || inputs[call.started()][0];
     let conditions = [
         (2, *m < 2 || *m > LARGEST_MODULUS),
         (3, !inputs_fit || result.len() != call.result().length(*n)),
@@ -28,7 +28,7 @@ pub fn number(call: Call, case: &Case) -> u32 {
         return *word;
     }
     match call {
-        Call::Exponential | Call::Composition if first() != 0 => 6,
+        Call::Exponential | Call::Composition | Call::Projection if first() != 0 => 6,
         Call::Logarithm if first() != 1 => 6,
         Call::Inverse if greatest_common_divisor(first(), *m) > 1 => 6,
         Call::XorProduct if m % 2 == 0 => 7,

@@ -1,0 +1,5 @@
+pub mod Halves
+pub mod Pairing
+pub mod Levels
+pub mod Law
+pub mod Sessions
