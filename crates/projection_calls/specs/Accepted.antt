@@ -6,7 +6,6 @@ use native.Mathlib.Omega.{arith}
 use native.Mathlib.Nat.{le-refl}
 use lib.ListN.{length, take}
 use Rattle.definitions.specs.Limits.{padLength}
-use Rattle.definitions.specs.Sums.{at}
 use Rattle.definitions.specs.Refusals.{panelWord, modulusWord, tableWord, rowWord, padWord, entryWord, startWord, projectionNumber}
 use Rattle.residues.specs.declared.Modulus.{Modulus}
 use Rattle.checks.specs.Words.{AllZero, all-zero}
