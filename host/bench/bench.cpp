@@ -51,7 +51,7 @@ struct Data {
     }
 };
 
-// A call of the library and a plain form, its yardstick, of the same inputs; `odd_only` where even moduli are refused.
+// A call of the library and its yardstick, a plain form on the same inputs or another call; `odd_only` where even moduli are refused.
 struct Bench {
     std::string call, yardstick;
     std::function<u64(Data &)> library;
@@ -213,7 +213,8 @@ int main() {
 
     std::printf("Medians of %d interleaved rounds. Plain forms refuse nothing and clear no pad; from exponential to\n"
                 "projection they work by the scalar subset product. Duties: what the contract asks of a call besides its\n"
-                "product, that is testing every entry, the ceiling (subset product) and clearing the pad.\n\n", ROUNDS);
+                "product, that is testing every entry, the ceiling (subset product) and clearing the pad. The yardstick\n"
+                "\"subset product\" is the library's own call.\n\n", ROUNDS);
     std::printf("%-44s library / yardstick at n =     library's growth   n = 16 in subset\n", "");
     std::printf("%-17s %-16s %-10s %6u %6u %6u %6u     12 to 14  14 to 16   products        ms\n",
                 "call", "yardstick", "modulus", 8, 12, 14, 16);

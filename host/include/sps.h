@@ -2,7 +2,7 @@
  *
  * A panel has n controls, 0 to 16.  A set of controls is named by its code, the sum of 2^i over its controls i; its size
  * is how many controls it has.  A table has 2^n entries, entry S belonging to the set with code S; its first entry is that
- * of the empty set.  A row has n + 1 entries.  Entries are residues from 0 to m - 1, and all arithmetic is modulo m.
+ * of the empty set, and its last one, the whole-panel entry, that of the set of all controls.  A row has n + 1 entries.  Entries are residues from 0 to m - 1, and all arithmetic is modulo m.
  *
  * Slices.  A slice is a pointer and then a length, counted in elements (32-bit numbers or bytes).  The pointer is never
  * null, also when the length is 0, and is aligned for its element.  Inputs are only read, and two inputs may be the same
@@ -122,11 +122,11 @@ uint32_t sps_composition(uint32_t n, uint32_t m,
                          uint32_t *result, size_t result_len,
                          uint32_t *pad, size_t pad_len);
 
-/* How the sessions of the whole panel divide by their number of exercises: result is a row, and result[i] is the whole panel's
- * entry of the subset product of a with the composition of b with the row that is 1 at place i and 0 elsewhere; that is, the
- * sum of a[L] times the product of b over the blocks, over all sets L and all partitions of the other controls into i blocks.
- * b[0] must be 0; a[0] may be any residue.  For each row f, the sum of f[i] * result[i] is the whole panel's entry of the subset
- * product of a and the composition of b with f.  Refusals 1 to 6. */
+/* A row: result[i] is the whole-panel entry of the subset product of a with the composition of b with the row that is 1 at
+ * place i and 0 elsewhere; that is, the sum of a[L] times the product of b over the blocks, over all sets L and all
+ * partitions of the other controls into i blocks.  With a = 1, 0, .., 0 it says how the exponential's sum for the whole panel
+ * divides by the number of blocks.  b[0] must be 0; a[0] may be any residue.  For each row f, the sum of f[i] * result[i] is
+ * the whole-panel entry of the subset product of a and the composition of b with f.  Refusals 1 to 6, 6 for b alone. */
 uint32_t sps_projection(uint32_t n, uint32_t m,
                         const uint32_t *a, size_t a_len,
                         const uint32_t *b, size_t b_len,

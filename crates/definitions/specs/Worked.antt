@@ -86,8 +86,8 @@ worked = (
   ),
 )
 
--- Of P and R: with no exercise, P's own 4; with one, 1 · 4 + 2 · 3 + 3 · 2; with two, 1 · 2 · 3. The same under m = 5. With A = [1, 0, ..]
--- the sessions of the panel itself: R's; with one exercise for each set, the partitions of three controls by their number of blocks.
+-- Of P and R: with no block, P's own 4; with one, 1 · 4 + 2 · 3 + 3 · 2; with two, 1 · 2 · 3. The same under m = 5. With A = [1, 0, ..] the
+-- partitions of the whole panel alone: under R, and with all ones, where they are counted.
 abbrev pub projections : List Case
 projections =
     projection 2 101 P R (4 ∷ 16 ∷ 6 ∷ [])

@@ -48,7 +48,7 @@ pub fn exponential_table(a: &[u32], m: u32, result: &mut [u32]) {
     composition_table(a, &[1; 17], m, result);
 }
 
-// The sum over all sets l, of a[l] times the sum over the partitions of the other controls into i blocks.
+// The sum over all sets l and all partitions of the other controls into i blocks, of a[l] times the product of b over the blocks.
 fn projection_entry(i: usize, a: &[u32], b: &[u32], m: u32) -> u32 {
     let mut row = [0u32; 17];
     set_entry(&mut row, i, 1);

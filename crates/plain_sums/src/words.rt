@@ -7,7 +7,7 @@ use crate::partitions::projection_row;
 
 // Of a table a and a table or row b, into zeros, which another letter leaves: over disjoint pairs, those with one union or one
 // symmetric difference, pairs of a block with the lowest control and the rest, partitions, partitions with a row for their
-// number of blocks, the whole panel's sessions by their number of blocks.
+// number of blocks, sets and partitions of the rest by their number of blocks.
 pub fn add_up(how: u8, m: u32, a: &[u32], b: &[u32], sums: &mut [u32]) {
     match how {
         b'd' | b'u' | b'x' => pair_table(how, a, b, m, sums),

@@ -1,4 +1,4 @@
--- The whole panel's entry, on tables by halves, exact.
+-- The whole-panel entry, on tables by halves, exact.
 --   last, last-add, last-zeros, tab-last   the entry of the set of all controls
 --   pairing n a f b                        the last entry of a · f(b), where f(b) is b composed with the row f
 --   pairing-step                           by halves: the step of source 001 section 4

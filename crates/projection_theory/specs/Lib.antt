@@ -2,4 +2,4 @@ pub mod Halves
 pub mod Pairing
 pub mod Levels
 pub mod Law
-pub mod Sessions
+pub mod Blocks

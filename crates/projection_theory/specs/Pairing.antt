@@ -1,5 +1,5 @@
--- The same on functions of codes, and modulo m.
---   paired k G f B                        the whole panel's entry of G · f(B), k controls
+-- The pairing of Halves on functions of codes, and modulo m.
+--   paired k G f B                        the whole-panel entry of G · f(B), k controls
 --   paired-half                           by halves
 --   paired-plus, paired-zero, paired-mod  in G
 --   paired-none-left                      with no controls: G[0] · f[0]

@@ -98,7 +98,7 @@ fn difference_undoes_the_sum() {
     });
 }
 
-/// For each row f, the sum of f[i] times the projection's entry i is the whole panel's entry of a times b composed with f.
+/// For each row f, the sum of f[i] times the projection's entry i is the whole-panel entry of a times b composed with f.
 #[test]
 fn projection_sums_to_the_whole_panel_of_a_composition() {
     for_each_panel(|n, m, random| {

@@ -1,4 +1,5 @@
-//! The specification's own examples: the twelve entries worked by hand, where composers slip, and the edges.
+//! The specification's own examples: the twelve entries worked by hand, where composers slip, and the edges; and projections
+//! worked by hand.
 
 use crate::calls::{Call, Case};
 use crate::ffi;
@@ -63,7 +64,7 @@ fn entry_8_binomial_product() {
     gives(Call::BinomialProduct, 101, &[&[1, 0, 5], &[1, 1, 1]], &[1, 1, 6]);
 }
 
-/// Of P and R: with no exercise, P's own 4; with one, 1 · 4 + 2 · 3 + 3 · 2; with two, 1 · 2 · 3.
+/// Of P and R: with no block, P's own 4; with one, 1 · 4 + 2 · 3 + 3 · 2; with two, 1 · 2 · 3.
 #[test]
 fn projection() {
     gives(Call::Projection, 101, &[&P, &R], &[4, 16, 6]);

@@ -1,5 +1,5 @@
--- What an entry of the projection sums: over all sets L and all partitions of the other controls, of those with i blocks, A[L] times
--- the product of B over the blocks.
+-- What entry i of the projection sums: over all sets L and all partitions of the other controls into i blocks, A[L] times the product
+-- of B over the blocks.
 use mathlib.Core.Path.{_≡_, ap, _∙_}
 use mathlib.Core.Bool.{Bool, true, cond}
 use mathlib.Core.List.{List}
