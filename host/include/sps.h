@@ -2,7 +2,8 @@
  *
  * A panel has n controls, 0 to 16.  A set of controls is named by its code, the sum of 2^i over its controls i; its size
  * is how many controls it has.  A table has 2^n entries, entry S belonging to the set with code S; its first entry is that
- * of the empty set, and its last one, the whole-panel entry, that of the set of all controls.  A row has n + 1 entries.  Entries are residues from 0 to m - 1, and all arithmetic is modulo m.
+ * of the empty set, and its last one, the whole-panel entry, that of the set of all controls.  A row has n + 1 entries.
+ * Entries are residues from 0 to m - 1, and all arithmetic is modulo m.
  *
  * Slices.  A slice is a pointer and then a length, counted in elements (32-bit numbers or bytes).  The pointer is never
  * null, also when the length is 0, and is aligned for its element.  Inputs are only read, and two inputs may be the same
