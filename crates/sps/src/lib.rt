@@ -5,7 +5,8 @@ ghost use Rattle.definitions.specs.Products.{sumTable, differenceTable, subsetT
 ghost use Rattle.definitions.specs.Rows.{binomialRow};
 ghost use Rattle.definitions.specs.Partitions.{exponentialTable, compositionTable, IsLogarithm, IsInverse};
 ghost use Rattle.definitions.specs.Projection.{projectionRow};
-ghost use Rattle.definitions.specs.Refusals.{sumNumber, binomialNumber, productNumber, xorNumber, exponentialNumber, logarithmNumber, compositionNumber, inverseNumber, projectionNumber, after, valueAfter, padAfter};
+ghost use Rattle.definitions.specs.Refusals.{sumNumber, binomialNumber, productNumber, xorNumber, exponentialNumber, logarithmNumber, compositionNumber, inverseNumber, projectionNumber};
+ghost use Rattle.definitions.specs.Refusals.{after, valueAfter, padAfter};
 ghost use Rattle.definitions.specs.Files.{headerNumber, headerControls, headerModulus, packed, readerNumber, readerControls, readerModulus, tableRead, writerNumber, writtenCount, writtenBuffer};
 ghost use Rattle.theory.specs.Logarithm.{logarithmOf};
 ghost use Rattle.series_calls.specs.InverseTables.{inverseTable};
