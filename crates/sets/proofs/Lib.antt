@@ -1,3 +1,1 @@
-pub mod Bytes
 pub mod Next
-pub mod Sizes

@@ -1,4 +1,4 @@
--- Sizes of codes: of a byte, and within which codes they are looked up.
+-- Of which codes a size is asked, and how large it can be.
 use mathlib.Core.Path.{_≡_, subst, sym}
 use Prim.Native.Nat.{ℕ, _^_, _<_, _≤_}
 use lib.Count.{ones-le}
@@ -7,11 +7,6 @@ use Rattle.definitions.specs.Sets.{size}
 -- the codes of three bytes
 abbrev pub codeLimit : ℕ
 codeLimit = 2 ^ 24
-
--- what a lookup gives
-pub record SizeOfByte (byte r : ℕ) : Type 0 where
-  pub same : r ≡ size byte
-  pub few : r ≤ 8
 
 -- a set of the first n controls has at most n
 pub size-le : (n : ℕ) {code r : ℕ} → code < 2 ^ n → r ≡ size code → r ≤ n

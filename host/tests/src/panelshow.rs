@@ -6,7 +6,7 @@ use std::thread::sleep;
 use std::time::Duration;
 
 use crate::random::{Fill, Random, FILLS};
-use crate::reference::files::{groups, shown};
+use crate::reference::files::{groups, shown, File};
 use crate::table_files::random_file;
 
 /// Runs the program on an input that comes in these pieces.
@@ -49,6 +49,18 @@ fn whole_files() {
             }
         }
     }
+}
+
+/// How many sets of 8 controls have 0, 1, … 8 of them: a row of Pascal's triangle.
+#[test]
+fn sizes_of_eight_controls() {
+    let bytes = File { n: 8, m: 2, entries: vec![1; 256] }.bytes();
+    let mut lines_of = [0; 9];
+    for line in printed(&[&bytes]).lines().skip(1) {
+        let size = line.split(' ').nth(1).expect("a line has a size");
+        lines_of[size.parse::<usize>().expect("a size is a number")] += 1;
+    }
+    assert_eq!(lines_of, [1, 8, 28, 56, 70, 56, 28, 8, 1]);
 }
 
 #[test]

@@ -1,6 +1,7 @@
 //! Table files, decoded and encoded by themselves, and what `panelshow` prints of one.
 
 use super::refusals::{LARGEST_MODULUS, MOST_CONTROLS};
+use super::size;
 
 /// What a file holds.
 #[derive(Clone, Debug, PartialEq)]
@@ -73,7 +74,7 @@ pub fn shown(bytes: &[u8]) -> String {
         Err(word) => format!("refused {word}\n"),
         Ok(File { n, m, entries }) => {
             let nonzero = entries.iter().enumerate().filter(|(_, value)| **value != 0);
-            let lines = nonzero.map(|(code, value)| format!("{code} {} {value}\n", code.count_ones()));
+            let lines = nonzero.map(|(code, value)| format!("{code} {} {value}\n", size(code)));
             format!("{n} {m}\n") + &lines.collect::<String>()
         }
     }

@@ -21,6 +21,15 @@ pub fn minus(x: u32, y: u32, m: u32) -> u32 {
     ((u64::from(x) + u64::from(m) - u64::from(y)) % u64::from(m)) as u32
 }
 
+/// How many controls a set has, counted one by one; the library takes the language's count.
+pub fn size(set: usize) -> u32 {
+    if set == 0 {
+        0
+    } else {
+        (set % 2) as u32 + size(set / 2)
+    }
+}
+
 pub fn greatest_common_divisor(x: u32, y: u32) -> u32 {
     if y == 0 {
         x

@@ -1,6 +1,6 @@
 //! Products as sums over pairs.
 
-use super::{minus, plus, reciprocal, times};
+use super::{minus, plus, reciprocal, size, times};
 
 pub fn sum(m: u32, a: &[u32], b: &[u32]) -> Vec<u32> {
     a.iter().zip(b).map(|(&x, &y)| plus(x, y, m)).collect()
@@ -78,12 +78,12 @@ pub fn binomial_product(m: u32, f: &[u32], g: &[u32]) -> Vec<u32> {
 
 /// How many subsets of i things have j elements, counted one by one.
 fn subsets_of_size(i: usize, j: usize) -> u32 {
-    (0u32..1 << i).filter(|set| set.count_ones() as usize == j).count() as u32
+    (0..1 << i).filter(|&set| size(set) as usize == j).count() as u32
 }
 
 /// The largest size of a set whose entry is not 0, and 0 if there is none.
 pub fn ceiling(a: &[u32]) -> u32 {
-    (0..a.len()).filter(|&set| a[set] != 0).map(|set| set.count_ones()).max().unwrap_or(0)
+    (0..a.len()).filter(|&set| a[set] != 0).map(size).max().unwrap_or(0)
 }
 
 fn reduced(totals: Vec<u64>, m: u32) -> Vec<u32> {
