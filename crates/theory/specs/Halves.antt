@@ -181,7 +181,7 @@ unfolding empty tab
 tab-empty zero A = refl
 tab-empty (suc k) A = tab-empty k A
 
-tab-zeros : (k : ℕ) → tab k (λ c. 0) ≡ zeros k
+pub tab-zeros : (k : ℕ) → tab k (λ c. 0) ≡ zeros k
 unfolding tab zeros
 tab-zeros zero = refl
 tab-zeros (suc k) = both (tab-zeros k) (tab-zeros k)
