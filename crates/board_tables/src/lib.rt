@@ -1,0 +1,63 @@
+// The two tables of a board, in place: those of a fresh one, and what an accepted change does to each.
+ghost use mathlib.Core.Path.{_≡_};
+ghost use Prim.Native.Nat.{_+_, _*_, _<_};
+ghost use lib.ListN.{length};
+ghost use Rattle.definitions.specs.Sums.{tabulate};
+ghost use Rattle.definitions.specs.Partitions.{unit};
+ghost use Rattle.definitions.specs.Boards.{addedAt, raisedOver};
+ghost use Rattle.residues.specs.Moduli.{Valid, Below, Residue};
+ghost use Rattle.board_tables.specs.Ready.{CanChange};
+use residues::Modulus;
+
+// 0 everywhere.
+pub fn fill_zeros(table: &mut [u32])
+    ensures { λ _. ⌜ now (table .exit) ≡ tabulate (length (now (table .entry))) (λ S. 0) ⌝ }
+{
+    pads::clear(table.len(), table);
+}
+
+// 1 at the empty set and 0 elsewhere.
+pub fn fill_unit(table: &mut [u32])
+    requires { ⌜ 0 < length (now table) ⌝ }
+    ensures { λ _. ⌜ now (table .exit) ≡ tabulate (length (now (table .entry))) unit ⌝ }
+{
+    fill_zeros(table);
+    table[0] = 1;
+}
+
+// The weight is added at the set.
+pub fn add_at(n: u32, modulus: Modulus, set: usize, weight: u32, table: &mut [u32])
+    requires { ⌜ CanChange n modulus set weight (now table) ⌝ }
+    ensures { λ _. ⌜ now (table .exit) ≡ addedAt n (modulus .value) set weight (now (table .entry)) ⌝ }
+{
+    let x = table[set];
+    table[set] = modulus.add(x, weight);
+}
+
+// x and a product, with one division: there is room for one more residue beside a product of two.
+fn add_product(modulus: Modulus, x: u32, a: u32, b: u32) -> u32
+    requires { ⌜ Valid modulus ⌝ }
+    requires { ⌜ Below (modulus .value) a b ⌝ }
+    requires { ⌜ x < modulus .value ⌝ }
+    ensures { λ r. ⌜ Residue (modulus .value) (x + a * b) r ⌝ }
+{
+    let product = (a as u64) * (b as u64);
+    modulus.reduce((x as u64) + product)
+}
+
+// Each set that contains `set` gets the weight times the entry of that set without it. The sets are passed in rising code:
+// the next number above t that contains `set` is (t + 1) | set. The entries that are read are of sets that do not contain
+// it, so they are the old ones.
+pub fn raise(n: u32, modulus: Modulus, set: usize, weight: u32, table: &mut [u32])
+    requires { ⌜ CanChange n modulus set weight (now table) ⌝ }
+    ensures { λ _. ⌜ now (table .exit) ≡ raisedOver n (modulus .value) set weight (now (table .entry)) ⌝ }
+{
+    let mut t = set;
+    while t < table.len() {
+        let rest = t - set;
+        let y = table[rest];
+        let x = table[t];
+        table[t] = add_product(modulus, x, weight, y);
+        t = (t + 1) | set;
+    }
+}
