@@ -170,8 +170,8 @@ std::vector<Bench> benches() {
     return all;
 }
 
-// Both give the same, from the same board, which has no zeros to speak of; two calls of the library are both accepted. This also
-// writes every buffer once before it is measured.
+// Both give the same, from the same full board; two calls of the library are both accepted. This also writes every buffer once
+// before it is measured.
 void compare(const Bench &bench, Data &d) {
     d.board_a = d.plain_a = d.a;
     d.board_e = d.plain_e = d.b;

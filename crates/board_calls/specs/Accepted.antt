@@ -1,10 +1,10 @@
 -- From the tests of a call on a board to its work, and from the work to what the call promises.
 --   ready, ready-for, taken-table     what an accepted change hands to its work, with its own weight or another
---   unit-room, filled                 a fresh board's tables have 2 ^ n entries
+--   unit-room, long-enough            a fresh board's tables have 2 ^ n entries
 --   accepted-board, refused-board     number and tables at the end of a call
 use mathlib.Core.Path.{_≡_, sym, ap, subst, _∙_}
 use mathlib.Core.List.{List}
-use Prim.Native.Nat.{ℕ, _+_, _-_, _%_, _^_, _<_}
+use Prim.Native.Nat.{ℕ, _+_, _-_, _%_, _<_}
 use native.Mathlib.Nat.{zero-add}
 use native.Mathlib.Omega.{arith}
 use lib.ListN.{length}
@@ -19,33 +19,28 @@ use Rattle.checks.specs.declared.Checked.{Checked}
 use Rattle.checks.specs.declared.Checked.the-variants.{Accepted, Refused}
 use Rattle.board_theory.specs.Accepted.{IsChange, IsRoom, change-accepted, fresh-accepted}
 
--- what the weight lacks to the modulus
-lacking-is : (m c : ℕ) {d : ℕ} → Residue m (0 + (m - c)) d → d ≡ lacking m c
-lacking-is m c r = r .same ∙ ap (λ (k : ℕ). k % m) (zero-add (m - c))
+-- a table made with what the weight c lacks to the modulus
+pub taken-table : {m : ℕ} (c : ℕ) {d : ℕ} (f : ℕ → ℕ → List ℕ) {l : List ℕ} → Residue m (0 + (m - c)) d → l ≡ f m d → l ≡ f m (lacking m c)
+taken-table {m} c f r p = p ∙ ap (f m) (r .same ∙ ap (λ (k : ℕ). k % m) (zero-add (m - c)))
 
 -- ---- the work
 
-pub record Ready (n : ℕ) (modulus : Modulus) (S c : ℕ) (b : Board) : Type 0 where
+pub record BoardReady (n : ℕ) (modulus : Modulus) (S c : ℕ) (b : Board) : Type 0 where
   pub valid : Valid modulus
   pub change : IsChange n (modulus .value) S c b
 
 module _ (n : ℕ) {m : ℕ} (S c : ℕ) (b : Board) {answer : Checked} {modulus : Modulus} (h : IsChecked m (changeNumber n m S c b) answer) (e : answer ≡ Accepted modulus) where
-  pub ready : Ready n modulus S c b
+  pub ready : BoardReady n modulus S c b
   ready =
       let s = h .stands modulus e in
       let change : IsChange n m S c b = change-accepted n m S c b (accepted h e) in
       record { valid = s .valid; change = subst (λ (k : ℕ). IsChange n k S c b) (sym (s .value-is)) change }
 
-  pub ready-for : {d : ℕ} → d < modulus .value → Ready n modulus S d b
+  pub ready-for : {d : ℕ} → d < modulus .value → BoardReady n modulus S d b
   ready-for k = let i = ready .change in record {
     valid = ready .valid;
     change = record { board = i .board; some = i .some; code = i .code; weight = k };
   }
-
-  -- a table that was made by what the weight lacks
-  pub taken-table : (f : ℕ → ℕ → List ℕ) {l : List ℕ} {d : ℕ} → Residue (modulus .value) (0 + (modulus .value - c)) d
-      → l ≡ f (modulus .value) d → l ≡ f (modulus .value) (lacking (modulus .value) c)
-  taken-table f r p = p ∙ ap (f (modulus .value)) (lacking-is (modulus .value) c r)
 
 module _ (n : ℕ) {m : ℕ} (b : Board) {answer : Checked} {modulus : Modulus} (h : IsChecked m (freshNumber n m b) answer) (e : answer ≡ Accepted modulus) where
   pub room : IsRoom n m b
@@ -54,8 +49,8 @@ module _ (n : ℕ) {m : ℕ} (b : Board) {answer : Checked} {modulus : Modulus} 
   pub unit-room : 0 < length (b .exponential)
   unit-room = omega (arith, room .exponential, pow-pos n)
 
-pub filled : (f : ℕ → ℕ) {long N : ℕ} {l : List ℕ} → l ≡ tabulate long f → long ≡ N → l ≡ tabulate N f
-filled f p e = p ∙ ap (λ (k : ℕ). tabulate k f) e
+pub long-enough : (f : ℕ → ℕ) {long N : ℕ} {l : List ℕ} → l ≡ tabulate long f → long ≡ N → l ≡ tabulate N f
+long-enough f p e = p ∙ ap (λ (k : ℕ). tabulate k f) e
 
 -- ---- the answer
 

@@ -2,7 +2,7 @@
 ghost use mathlib.Core.Path.{_≡_};
 ghost use Rattle.definitions.specs.Refusals.{after};
 ghost use Rattle.definitions.specs.Boards.{board, addedAt, raisedOver, lacking, freshBoard, freshNumber, changeNumber};
-ghost use Rattle.board_calls.specs.Accepted.{Ready};
+ghost use Rattle.board_calls.specs.Accepted.{BoardReady};
 use board_checks::check_change;
 use board_checks::check_fresh;
 use board_tables::add_at;
@@ -14,7 +14,7 @@ use residues::Modulus;
 
 // Both tables of an accepted change.
 fn change(n: u32, modulus: Modulus, set: u32, weight: u32, a: &mut [u32], e: &mut [u32])
-    requires { ⌜ Ready n modulus set weight (board (now a) (now e)) ⌝ }
+    requires { ⌜ BoardReady n modulus set weight (board (now a) (now e)) ⌝ }
     ensures { λ _. ⌜ now (a .exit) ≡ addedAt n (modulus .value) set weight (now (a .entry)) ⌝ }
     ensures { λ _. ⌜ now (e .exit) ≡ raisedOver n (modulus .value) set weight (now (e .entry)) ⌝ }
 {
@@ -30,7 +30,7 @@ pub fn board_fresh(n: u32, m: u32, a: &mut [u32], e: &mut [u32]) -> u32
     ensures { λ r. ⌜ now (e .exit) ≡ after r (freshBoard n .exponential) (now (e .entry)) ⌝ }
 {
     match check_fresh(n, m, a, e) {
-        Checked::Accepted(modulus) => {
+        Checked::Accepted(_) => {
             fill_zeros(a);
             fill_unit(e);
             0
@@ -39,7 +39,7 @@ pub fn board_fresh(n: u32, m: u32, a: &mut [u32], e: &mut [u32]) -> u32
     }
 }
 
-// Adds the weight at the set: to a there, and to e, times the old entry of the set without it, at each set that contains it. Costs
+// Adds the weight at the set: in a there; in e at each set that contains it, times the old entry of that one without it. Costs
 // O(2^n).
 pub fn board_add(n: u32, m: u32, set: u32, weight: u32, a: &mut [u32], e: &mut [u32]) -> u32
     ensures { λ r. ⌜ r ≡ changeNumber n m set weight (board (now (a .entry)) (now (e .entry))) ⌝ }

@@ -2,7 +2,8 @@
 ghost use mathlib.Core.Path.{_≡_};
 ghost use Prim.Native.Nat.{_≤_};
 ghost use Rattle.definitions.specs.Limits.{mostControls};
-ghost use Rattle.definitions.specs.Boards.{board, emptyWord, codeWord, weightWord, freshNumber, changeNumber};
+ghost use Rattle.definitions.specs.Refusals.{emptyWord, codeWord, weightWord};
+ghost use Rattle.definitions.specs.Boards.{board, freshNumber, changeNumber};
 ghost use Rattle.checks.specs.Answers.{IsChecked};
 use checks::Checked;
 use checks::check_modulus;

@@ -7,10 +7,9 @@ use native.Mathlib.Omega.{arith}
 use lib.ListN.{length, set, length-append}
 use Rattle.definitions.specs.Refusals.{after}
 use Rattle.definitions.specs.Sums.{at}
-use Rattle.definitions.specs.Boards.{Board, board, addedAt, raisedOver, lacking, freshBoard, freshNumber, changeNumber, boardAfter, Change, numberOn, changed, next, run, runNumbers, BoardLaw}
-use Rattle.board_theory.specs.Accepted.{fresh-accepted}
-use Rattle.board_theory.specs.Runs.{board-law, run-more, numbers-more, numbers-length}
-use Rattle.board_laws.specs.Law.{changeOf, changesOf, Calls, Made, written, AllMade, Run, Lawful}
+use Rattle.definitions.specs.Boards.{Board, board, addedAt, raisedOver, lacking, freshBoard, freshNumber, changeNumber, boardAfter, Change, numberOn, changed, next, run, runNumbers}
+use Rattle.board_theory.specs.Runs.{run-more, numbers-more, numbers-length}
+use Rattle.board_laws.specs.Law.{changeOf, changesOf, Calls, ChangeMade, written, ChangesMade, Run}
 
 -- table by table
 board-after : (k : ℕ) (new old : Board) {A E : List ℕ} → A ≡ after k (new .weights) (old .weights) → E ≡ after k (new .exponential) (old .exponential)
@@ -22,7 +21,7 @@ board-after (suc k) new old p q = ap₂ board p q
 
 module _ (n m : ℕ) (x : Change) (b : Board) where
   made : {r : ℕ} {A E : List ℕ} → r ≡ numberOn n m b x → A ≡ after r (changed n m b x .weights) (b .weights) → E ≡ after r (changed n m b x .exponential) (b .exponential)
-      → Made n m x b r (board A E)
+      → ChangeMade n m x b r (board A E)
   unfolding next
   made {r} e p q = record {
     number = e;
@@ -31,14 +30,14 @@ module _ (n m : ℕ) (x : Change) (b : Board) where
 
 module _ (n m : ℕ) (kind S c : ℕ) (b : Board) {r : ℕ} {A E : List ℕ} (e : r ≡ changeNumber n m S c b) where
   pub made-add : kind ≡ 0 → A ≡ after r (addedAt n m S c (b .weights)) (b .weights) → E ≡ after r (raisedOver n m S c (b .exponential)) (b .exponential)
-      → Made n m (changeOf kind S c) b r (board A E)
+      → ChangeMade n m (changeOf kind S c) b r (board A E)
   made-add z p q =
-      subst (λ (k : ℕ). Made n m (changeOf k S c) b r (board A E)) (sym z) (made n m (changeOf 0 S c) b e p q)
+      subst (λ (k : ℕ). ChangeMade n m (changeOf k S c) b r (board A E)) (sym z) (made n m (changeOf 0 S c) b e p q)
 
   pub made-take : (kind ≡ 0 → ⊥) → A ≡ after r (addedAt n m S (lacking m c) (b .weights)) (b .weights) → E ≡ after r (raisedOver n m S (lacking m c) (b .exponential)) (b .exponential)
-      → Made n m (changeOf kind S c) b r (board A E)
+      → ChangeMade n m (changeOf kind S c) b r (board A E)
   made-take d p q = by kind d where
-    by : (k : ℕ) → (k ≡ 0 → ⊥) → Made n m (changeOf k S c) b r (board A E)
+    by : (k : ℕ) → (k ≡ 0 → ⊥) → ChangeMade n m (changeOf k S c) b r (board A E)
     by zero d = absurd (d refl)
     by (suc k) d = made n m (changeOf (suc k) S c) b e p q
 
@@ -62,7 +61,7 @@ module _ (kinds sets weights : List ℕ) where
   module _ (n m : ℕ) (b : Board) (lent : List ℕ) where
     -- what is so after the first i changes
     abbrev pub Turn : ℕ → List ℕ → Board → Type 0
-    Turn i kept c = AllMade n m (changesOf i kinds sets weights) b c lent kept
+    Turn i kept c = ChangesMade n m (changesOf i kinds sets weights) b c lent kept
 
     pub none-made : Turn 0 lent b
     unfolding changesOf run runNumbers written
@@ -71,7 +70,7 @@ module _ (kinds sets weights : List ℕ) where
     pub all-made : {i k : ℕ} {kept : List ℕ} {c : Board} → i ≡ k → Turn i kept c → Turn k kept c
     all-made {kept = kept} {c = c} e p = subst (λ (j : ℕ). Turn j kept c) e p
 
-    module _ (i : ℕ) {kept : List ℕ} {c d : Board} {r : ℕ} (p : Turn i kept c) (q : Made n m (changeOf (at kinds i) (at sets i) (at weights i)) c r d) where
+    module _ (i : ℕ) {kept : List ℕ} {c d : Board} {r : ℕ} (p : Turn i kept c) (q : ChangeMade n m (changeOf (at kinds i) (at sets i) (at weights i)) c r d) where
       abbrev xs : List Change
       xs = changesOf i kinds sets weights
 
@@ -97,14 +96,10 @@ module _ (kinds sets weights : List ℕ) where
 
 -- ---- the fresh board before it
 
-pub lawful : (n m : ℕ) (c : Calls) {A E : List ℕ} → c .fresh ≡ freshNumber n m (c .found)
+pub fresh-run : (n m : ℕ) (c : Calls) {A E : List ℕ} → c .fresh ≡ freshNumber n m (c .found)
     → A ≡ after (c .fresh) (freshBoard n .weights) (c .found .weights) → E ≡ after (c .fresh) (freshBoard n .exponential) (c .found .exponential)
-    → AllMade n m (c .changes) (board A E) (c .left) (c .lent) (c .kept) → Lawful n m c
-lawful n m c e p q h = record {
-  run = run-of;
-  law = λ z. subst (BoardLaw n m (c .changes))
-      (sym (run-of .changes .board ∙ ap (λ (k : ℕ). run n m (boardAfter k (freshBoard n) (c .found)) (c .changes)) z))
-      (board-law n m (fresh-accepted n m (c .found) (sym e ∙ z) .range) (c .changes));
-} where
-  run-of : Run n m c
-  run-of = record { fresh = e; changes = subst (λ (b : Board). AllMade n m (c .changes) b (c .left) (c .lent) (c .kept)) (board-after (c .fresh) (freshBoard n) (c .found) p q) h }
+    → ChangesMade n m (c .changes) (board A E) (c .left) (c .lent) (c .kept) → Run n m c
+fresh-run n m c e p q h = record {
+  fresh = e;
+  changes = subst (λ (b : Board). ChangesMade n m (c .changes) b (c .left) (c .lent) (c .kept)) (board-after (c .fresh) (freshBoard n) (c .found) p q) h;
+}

@@ -38,7 +38,7 @@ pub record Calls : Type 0 where
 -- ---- what each promises
 
 -- one change of the board b, which returned r and left c
-pub record Made (n m : ℕ) (x : Change) (b : Board) (r : ℕ) (c : Board) : Type 0 where
+pub record ChangeMade (n m : ℕ) (x : Change) (b : Board) (r : ℕ) (c : Board) : Type 0 where
   pub number : r ≡ numberOn n m b x
   pub board : c ≡ next n m b x
 
@@ -49,13 +49,13 @@ written (k ∷ numbers) [] = []
 written (k ∷ numbers) (x ∷ lent) = k ∷ written numbers lent
 
 -- changes one after the other, of the board b, which left c and these numbers
-pub record AllMade (n m : ℕ) (changes : List Change) (b c : Board) (lent kept : List ℕ) : Type 0 where
+pub record ChangesMade (n m : ℕ) (changes : List Change) (b c : Board) (lent kept : List ℕ) : Type 0 where
   pub board : c ≡ run n m b changes
   pub numbers : kept ≡ written (runNumbers n m b changes) lent
 
 pub record Run (n m : ℕ) (c : Calls) : Type 0 where
   pub fresh : c .fresh ≡ freshNumber n m (c .found)
-  pub changes : AllMade n m (c .changes) (boardAfter (c .fresh) (freshBoard n) (c .found)) (c .left) (c .lent) (c .kept)
+  pub changes : ChangesMade n m (c .changes) (boardAfter (c .fresh) (freshBoard n) (c .found)) (c .left) (c .lent) (c .kept)
 
 -- ---- the law
 

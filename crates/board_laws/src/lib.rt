@@ -3,7 +3,7 @@ ghost use mathlib.Core.Path.{_≡_};
 ghost use Prim.Native.Nat.{min};
 ghost use lib.ListN.{set};
 ghost use Rattle.definitions.specs.Boards.{board};
-ghost use Rattle.board_laws.specs.Law.{changeOf, lentChanges, Made, AllMade, Lawful};
+ghost use Rattle.board_laws.specs.Law.{changeOf, lentChanges, ChangeMade, ChangesMade, Lawful};
 use board_calls::board_add;
 use board_calls::board_fresh;
 use board_calls::board_take;
@@ -15,8 +15,16 @@ fn least(x: usize, y: usize) -> usize
 }
 
 // One change: kind 0 adds, every other takes.
-fn change(n: u32, m: u32, kind: u32, set: u32, weight: u32, a: &mut [u32], e: &mut [u32]) -> u32
-    ensures { λ r. ⌜ Made n m (changeOf kind set weight) (board (now (a .entry)) (now (e .entry))) r (board (now (a .exit)) (now (e .exit))) ⌝ }
+fn make_change(
+    n: u32,
+    m: u32,
+    kind: u32,
+    set: u32,
+    weight: u32,
+    a: &mut [u32],
+    e: &mut [u32],
+) -> u32
+    ensures { λ r. ⌜ ChangeMade n m (changeOf kind set weight) (board (now (a .entry)) (now (e .entry))) r (board (now (a .exit)) (now (e .exit))) ⌝ }
 {
     if kind == 0 {
         board_add(n, m, set, weight, a, e)
@@ -35,7 +43,7 @@ fn keep(number: u32, i: usize, numbers: &mut [u32])
 }
 
 // The changes of three lent lists, as many as the shortest has.
-fn changes(
+fn make_changes(
     n: u32,
     m: u32,
     kinds: &[u32],
@@ -45,7 +53,7 @@ fn changes(
     a: &mut [u32],
     e: &mut [u32],
 )
-    ensures { λ _. ⌜ AllMade n m (lentChanges (now (kinds .entry)) (now (sets .entry)) (now (weights .entry)))
+    ensures { λ _. ⌜ ChangesMade n m (lentChanges (now (kinds .entry)) (now (sets .entry)) (now (weights .entry)))
         (board (now (a .entry)) (now (e .entry))) (board (now (a .exit)) (now (e .exit))) (now (numbers .entry)) (now (numbers .exit)) ⌝ }
 {
     let count = least(least(kinds.len(), sets.len()), weights.len());
@@ -54,14 +62,14 @@ fn changes(
         let kind = kinds[i];
         let set = sets[i];
         let weight = weights[i];
-        let number = change(n, m, kind, set, weight, a, e);
+        let number = make_change(n, m, kind, set, weight, a, e);
         keep(number, i, numbers);
         i += 1;
     }
 }
 
-// Makes a fresh board in a and e, and then the changes; their numbers are kept as far as there is room. Returns the number of the
-// fresh board.
+// Makes a fresh board in a and e and returns its number; then makes the changes of three lists of any length, of which the shortest
+// counts. Kind 0 adds, every other takes. The number of each is kept as far as there is room.
 pub fn board_law(
     n: u32,
     m: u32,
@@ -82,6 +90,6 @@ pub fn board_law(
     }) ⌝ }
 {
     let fresh = board_fresh(n, m, a, e);
-    changes(n, m, kinds, sets, weights, numbers, a, e);
+    make_changes(n, m, kinds, sets, weights, numbers, a, e);
     fresh
 }

@@ -20,7 +20,7 @@ use Rattle.theory.specs.Lists.{at-tabulate, tabulate-ext, tabulate-of, tabulate
 use Rattle.theory.specs.Entries.{at-below, below-anywhere}
 use Rattle.theory.specs.Codes.{inside→eq, eq→inside, inside-le, apart-rest}
 use Rattle.residues.specs.declared.Modulus.{Modulus}
-use Rattle.board_tables.specs.Ready.{CanChange}
+use Rattle.board_tables.specs.Ready.{TableReady}
 use Rattle.board_tables.proofs.Supersets.{next-contains, next-above, next-least}
 
 -- a product of two residues leaves room for one more residue
@@ -42,7 +42,7 @@ pub record Raising (n m S c : ℕ) (r : List ℕ) (t : ℕ) (l : List ℕ) : Typ
   pub size : length l ≡ length r
   pub is : l ≡ tabulate (2 ^ n) (raisedTo m S c r t)
 
-module _ {n : ℕ} {modulus : Modulus} {S c : ℕ} {r : List ℕ} (h : CanChange n modulus S c r) where
+module _ {n : ℕ} {modulus : Modulus} {S c : ℕ} {r : List ℕ} (h : TableReady n modulus S c r) where
   abbrev m : ℕ
   m = modulus .value
 
@@ -142,7 +142,7 @@ module _ {n : ℕ} {modulus : Modulus} {S c : ℕ} {r : List ℕ} (h : CanChange
       }
 
 -- c added at S
-pub added-set : {n : ℕ} {modulus : Modulus} {S c : ℕ} {r : List ℕ} → CanChange n modulus S c r → {v : ℕ} → v ≡ (at r S + c) % modulus .value → set r S v ≡ addedAt n (modulus .value) S c r
+pub added-set : {n : ℕ} {modulus : Modulus} {S c : ℕ} {r : List ℕ} → TableReady n modulus S c r → {v : ℕ} → v ≡ (at r S + c) % modulus .value → set r S v ≡ addedAt n (modulus .value) S c r
 unfolding addedAt residues
 added-set {n} {modulus} {S} {c} {r} h {v} e =
     ap (λ (u : List ℕ). set u S v) (sym (tabulate-self (2 ^ n) r (h .table .size)))

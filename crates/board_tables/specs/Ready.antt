@@ -6,7 +6,7 @@ use Rattle.residues.specs.declared.Modulus.{Modulus}
 use Rattle.checks.specs.Accepted.{IsTable}
 
 -- a table of residues, and a change by c at the nonempty set S
-pub record CanChange (n : ℕ) (modulus : Modulus) (S c : ℕ) (l : List ℕ) : Type 0 where
+pub record TableReady (n : ℕ) (modulus : Modulus) (S c : ℕ) (l : List ℕ) : Type 0 where
   pub valid : Valid modulus
   pub some : 0 < S
   pub code : S < 2 ^ n

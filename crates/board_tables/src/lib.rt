@@ -6,7 +6,7 @@ ghost use Rattle.definitions.specs.Sums.{tabulate};
 ghost use Rattle.definitions.specs.Partitions.{unit};
 ghost use Rattle.definitions.specs.Boards.{addedAt, raisedOver};
 ghost use Rattle.residues.specs.Moduli.{Valid, Below, Residue};
-ghost use Rattle.board_tables.specs.Ready.{CanChange};
+ghost use Rattle.board_tables.specs.Ready.{TableReady};
 use residues::Modulus;
 
 // 0 everywhere.
@@ -27,7 +27,7 @@ pub fn fill_unit(table: &mut [u32])
 
 // The weight is added at the set.
 pub fn add_at(n: u32, modulus: Modulus, set: usize, weight: u32, table: &mut [u32])
-    requires { ⌜ CanChange n modulus set weight (now table) ⌝ }
+    requires { ⌜ TableReady n modulus set weight (now table) ⌝ }
     ensures { λ _. ⌜ now (table .exit) ≡ addedAt n (modulus .value) set weight (now (table .entry)) ⌝ }
 {
     let x = table[set];
@@ -49,7 +49,7 @@ fn add_product(modulus: Modulus, x: u32, a: u32, b: u32) -> u32
 // the next number above t that contains `set` is (t + 1) | set. The entries that are read are of sets that do not contain
 // it, so they are the old ones.
 pub fn raise(n: u32, modulus: Modulus, set: usize, weight: u32, table: &mut [u32])
-    requires { ⌜ CanChange n modulus set weight (now table) ⌝ }
+    requires { ⌜ TableReady n modulus set weight (now table) ⌝ }
     ensures { λ _. ⌜ now (table .exit) ≡ raisedOver n (modulus .value) set weight (now (table .entry)) ⌝ }
 {
     let mut t = set;

@@ -6,10 +6,11 @@ use mathlib.Core.List.{List, [], _∷_, List·Permᴰ, List·Permᴰ·nil, List�
 use Prim.Native.Nat.{ℕ, zero, suc, _+_, _%_, _^_, _<_}
 use native.Mathlib.Nat.{zero-mod, zero-add, add-comm}
 use native.Mathlib.Omega.{arith}
-use Rattle.definitions.specs.Boards.{Board, board, boardAdd, boardTake, lacking, changeNumber, Change, adds, takes, numberOn, changed, next, run, runNumbers}
+use Rattle.definitions.specs.Refusals.{AcceptedTable}
+use Rattle.definitions.specs.Boards.{Board, board, boardAdd, boardTake, lacking, changeNumber, Change, adds, takes, numberOn, changed, next, run}
 use Rattle.board_theory.specs.Raised.{added-comm, raised-comm, added-twice, raised-twice, added-nothing, raised-nothing, lacking-back}
-use Rattle.board_theory.specs.Accepted.{IsBoard, IsChange, change-accepted, own-number}
-use Rattle.board_theory.specs.Runs.{add-board, next-accepted, next-refused}
+use Rattle.board_theory.specs.Accepted.{IsBoard, IsChange, accepted-board, change-accepted, own-number}
+use Rattle.board_theory.specs.Runs.{add-board, next-accepted, next-refused, next-board}
 
 module _ (n m : ℕ) where
   -- the set of a change, and the weight that it adds there, all told
@@ -25,20 +26,9 @@ module _ (n m : ℕ) where
   changed-is b (adds S c) = refl
   changed-is b (takes S c) = refl
 
-  changed-board : (b : Board) (x : Change) → IsBoard n m b → IsBoard n m (changed n m b x)
-  changed-board b (adds S c) h = add-board n m S c b h
-  changed-board b (takes S c) h = add-board n m S (lacking m c) b h
-
-  next-board : (b : Board) (x : Change) → IsBoard n m b → IsBoard n m (next n m b x)
-  next-board b x h = by (numberOn n m b x) refl where
-    by : (k : ℕ) → numberOn n m b x ≡ k → IsBoard n m (next n m b x)
-    by zero e = subst (IsBoard n m) (sym (next-accepted n m b x e)) (changed-board b x h)
-    by (suc k) e = subst (IsBoard n m) (sym (next-refused n m b x k e)) h
-
   -- accepted boards give a change the same number
   number-kept : (b c : Board) (x : Change) → IsBoard n m b → IsBoard n m c → numberOn n m b x ≡ numberOn n m c x
-  number-kept b c (adds S w) h k = own-number n m S w b h ∙ sym (own-number n m S w c k)
-  number-kept b c (takes S w) h k = own-number n m S w b h ∙ sym (own-number n m S w c k)
+  number-kept b c x h k = own-number n m b x h ∙ sym (own-number n m c x k)
 
   place-below : (b : Board) (x : Change) → numberOn n m b x ≡ 0 → place x < 2 ^ n
   place-below b (adds S c) e = change-accepted n m S c b e .code
@@ -59,12 +49,12 @@ module _ (n m : ℕ) where
     whole =
         ap (λ (k : ℕ). (k + c) % m) (sym (zero-add (lacking m c))) ∙ lacking-back m 0 c (let w = h .weight in omega arith) ∙ zero-mod m
 
-    pub take-after-add : boardTake n m S c (boardAdd n m S c b) ≡ b
+    take-after-add : boardTake n m S c (boardAdd n m S c b) ≡ b
     take-after-add =
         both-at-once S c (lacking m c) b (h .some)
         ∙ nothing S (c + lacking m c) b (ap (λ (k : ℕ). k % m) (add-comm c (lacking m c)) ∙ whole) (h .board)
 
-    pub add-after-take : boardAdd n m S c (boardTake n m S c b) ≡ b
+    add-after-take : boardAdd n m S c (boardTake n m S c b) ≡ b
     add-after-take = both-at-once S (lacking m c) c b (h .some) ∙ nothing S (lacking m c + c) b whole (h .board)
 
   -- two changes that are accepted one after the other
@@ -79,7 +69,7 @@ module _ (n m : ℕ) where
     still : (d : ℕ) → changeNumber n m S c (boardAdd n m S d b) ≡ 0
     still d = number-kept (boardAdd n m S d b) b (adds S c) (add-board n m S d b (a .board)) (a .board) ∙ e
 
-    -- taking undoes adding, on any board on which adding is accepted; then taking is accepted too
+    -- on any board on which the change is accepted
     pub taking-undoes : run n m b (adds S c ∷ takes S c ∷ []) ≡ b
     taking-undoes = run-two b (adds S c) (takes S c) e (still c) ∙ take-after-add S c b a
 
@@ -102,7 +92,7 @@ module _ (n m : ℕ) where
   next-comm : (b : Board) (x y : Change) → IsBoard n m b → next n m (next n m b x) y ≡ next n m (next n m b y) x
   next-comm b x y h = by (numberOn n m b x) (numberOn n m b y) refl refl where
     later : (x y : Change) {k : ℕ} → numberOn n m b y ≡ k → numberOn n m (next n m b x) y ≡ k
-    later x y e = number-kept (next n m b x) b y (next-board b x h) h ∙ e
+    later x y e = number-kept (next n m b x) b y (next-board n m b x h) h ∙ e
 
     accepted : (x y : Change) → numberOn n m b x ≡ 0 → numberOn n m b y ≡ 0 → next n m (next n m b x) y ≡ changed n m (changed n m b x) y
     accepted x y e f = next-accepted n m (next n m b x) y (later x y f) ∙ ap (λ (c : Board). changed n m c y) (next-accepted n m b x e)
@@ -112,12 +102,16 @@ module _ (n m : ℕ) where
     by j (suc k) e f = next-refused n m (next n m b x) y k (later x y f) ∙ sym (ap (λ (c : Board). next n m c x) (next-refused n m b y k f))
     by (suc j) zero e f = ap (λ (c : Board). next n m c y) (next-refused n m b x j e) ∙ sym (next-refused n m (next n m b y) x j (later y x e))
 
-  -- the same changes in another order, refused ones included
-  pub order-of-changes : (b : Board) {xs ys : List Change} → IsBoard n m b → List·Permᴰ xs ys → run n m b xs ≡ run n m b ys
+  reordered : (b : Board) {xs ys : List Change} → IsBoard n m b → List·Permᴰ xs ys → run n m b xs ≡ run n m b ys
   unfolding run
-  order-of-changes b h List·Permᴰ·nil = refl
-  order-of-changes b h (List·Permᴰ·cons {a = x} {l₂ = ys} e d) =
-      order-of-changes (next n m b x) (next-board b x h) d ∙ ap (λ (z : Change). run n m (next n m b z) ys) e
-  order-of-changes b h (List·Permᴰ·swap {a = x} {b = y} {l = l} e f) =
+  reordered b h List·Permᴰ·nil = refl
+  reordered b h (List·Permᴰ·cons {a = x} {l₂ = ys} e d) =
+      reordered (next n m b x) (next-board n m b x h) d ∙ ap (λ (z : Change). run n m (next n m b z) ys) e
+  reordered b h (List·Permᴰ·swap {a = x} {b = y} {l = l} e f) =
       ap (λ (c : Board). run n m c l) (next-comm b x y h) ∙ ap₂ (λ (v w : Change). run n m (next n m (next n m b v) w) l) f e
-  order-of-changes b h (List·Permᴰ·trans d e) = order-of-changes b h d ∙ order-of-changes b h e
+  reordered b h (List·Permᴰ·trans d e) = reordered b h d ∙ reordered b h e
+
+  -- the same changes in another order, refused ones included
+  pub order-of-changes : (b : Board) → AcceptedTable n m (b .weights) → AcceptedTable n m (b .exponential)
+      → {xs ys : List Change} → List·Permᴰ xs ys → run n m b xs ≡ run n m b ys
+  order-of-changes b p q = reordered b (accepted-board n m b p q)

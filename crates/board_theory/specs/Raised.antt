@@ -2,7 +2,8 @@
 --   exponential-raised              exp (A with c added at S) = exp A, raised by c over S
 --   exponential-fresh               the exponential of zeros
 --   raised-product, raised-comm     raising over S is the product with 1 + c x^S, so two raisings may change places
---   added-comm                      and so may two additions
+--   added-at, added-first           what is added at S: modulo m, and at the empty set
+--   added-comm                      two additions may change places too
 --   raised-twice, added-twice       two at one set are one with both weights
 --   raised-nothing, added-nothing   a multiple of m changes no table of residues
 --   lacking-back                    c, and what c lacks to m
@@ -10,23 +11,24 @@ use mathlib.Core.Path.{_≡_, refl, sym, ap, ap₂, _∙_}
 use mathlib.Core.Bool.{Bool, true, false, cond}
 use mathlib.Core.List.{List}
 use Prim.Native.Nat.{ℕ, _+_, _*_, _-_, _%_, _^_, _<_, _≤_}
-use native.Mathlib.Nat.{mod-mod, mod-add-mod, zero-mod, add-zero, zero-mul}
+use native.Mathlib.Nat.{mod-mod, zero-mod, add-zero, zero-mul}
 use native.Mathlib.Omega.{arith}
-use lib.Dec.{eqb, T}
+use lib.Dec.{eqb}
+use lib.Pow.{pow-pos}
 use Rattle.definitions.specs.Sums.{tabulate, at}
 use Rattle.definitions.specs.Sets.{inside}
-use Rattle.definitions.specs.Products.{residues, subsetSum, subsetTable}
+use Rattle.definitions.specs.Products.{residues, subsetTable}
 use Rattle.definitions.specs.Partitions.{compositionSum, exponentialTable, allOnes, unit}
 use Rattle.definitions.specs.Boards.{addedAt, raisedOver, lacking}
 use Rattle.theory.specs.Tests.{no-test}
-use Rattle.theory.specs.Lists.{at-tabulate, residues-ext, residues-self}
+use Rattle.theory.specs.Lists.{at-tabulate, at-residues, residues-ext, residues-self}
 use Rattle.theory.specs.Codes.{inside→eq, apart-rest}
 use Rattle.theory.specs.Remainders.{mod-add, mod-mul, mod-back}
 use Rattle.theory.specs.Series.{exponential-plus, subset-mod, composition-mod}
 use Rattle.theory.specs.Tables.{at-mod, composition-residues, product-comm, product-assoc}
 use Rattle.theory.specs.Inverse.{unit-table}
 use Rattle.checks.specs.Accepted.{IsTable}
-use Rattle.board_theory.specs.Single.{single, nothing-exponential, single-exponential, times-single}
+use Rattle.board_theory.specs.Single.{single, single-away, nothing-exponential, single-exponential, times-single}
 
 -- ---- c, and what c lacks to m
 
@@ -42,6 +44,12 @@ module _ (n m : ℕ) where
   pub added-at : (S c : ℕ) (A : List ℕ) (T : ℕ) → T < 2 ^ n → at (addedAt n m S c A) T % m ≡ (at A T + single S c T) % m
   unfolding addedAt
   added-at S c A T h = at-mod n m _ T h
+
+  -- the first entry stays 0
+  pub added-first : (S c : ℕ) → 0 < S → (A : List ℕ) → at A 0 ≡ 0 → at (addedAt n m S c A) 0 ≡ 0
+  unfolding addedAt
+  added-first S c some A z =
+      at-residues n m _ 0 (pow-pos n) ∙ ap₂ (λ (x y : ℕ). (x + y) % m) z (single-away S c 0 (λ e. omega arith)) ∙ zero-mod m
 
   -- two additions, the first first
   added-both : (S c R d : ℕ) (A : List ℕ) → addedAt n m R d (addedAt n m S c A) ≡ residues n m (λ T. at A T + single S c T + single R d T)

@@ -1,17 +1,18 @@
 -- Lists of changes of a fresh board.
---   next-accepted, next-refused     one change
---   next-sound, run-sound           what every change keeps: tables of residues, and E is the exponential of A (Sound)
+--   next-accepted, next-refused, next-keeps    one change
+--   next-board, next-sound          what every change keeps: tables of residues, and E is the exponential of A (Sound)
 --   run-weight                      the weight at a set after a list of changes
---   board-law                       the law, for every list
+--   board-law, fresh-numbers        the law, for every list; none is refused but for its set or its weight
 --   run-more, numbers-more, numbers-length     a list that grows at its end
-use mathlib.Core.Path.{_≡_, refl, sym, ap, subst, _∙_}
+use mathlib.Core.Path.{_≡_, refl, sym, ap, ap₂, subst, _∙_}
 use mathlib.Core.Bool.{Bool, true, false, cond}
-use mathlib.Core.List.{List, [], _∷_, _++_}
+use mathlib.Core.List.{List, [], _∷_, _++_, map}
 use Prim.Native.Nat.{ℕ, zero, suc, _+_, _-_, _%_, _^_, _<_}
 use native.Mathlib.Nat.{mod-eq-of-lt, mod-add-mod, zero-mod, add-zero, zero-add}
 use native.Mathlib.Omega.{arith}
 use lib.Dec.{eqb}
 use lib.ListN.{length}
+use lib.Pow.{pow-pos}
 use Rattle.definitions.specs.Sums.{tabulate, at}
 use Rattle.definitions.specs.Products.{residues}
 use Rattle.definitions.specs.Partitions.{exponentialTable, unit}
@@ -22,8 +23,8 @@ use Rattle.theory.specs.Remainders.{mod-add, mod-sub}
 use Rattle.theory.specs.Inverse.{unit-table}
 use Rattle.checks.specs.Accepted.{InRange, IsTable, table-accepts}
 use Rattle.laws_theory.specs.Accepting.{residues-table}
-use Rattle.board_theory.specs.Raised.{exponential-raised, exponential-fresh, added-at, lacking-back}
-use Rattle.board_theory.specs.Accepted.{IsBoard, change-accepted}
+use Rattle.board_theory.specs.Raised.{exponential-raised, exponential-fresh, added-at, added-first, lacking-back}
+use Rattle.board_theory.specs.Accepted.{IsBoard, change-accepted, ownNumber, own-number}
 
 module _ (n m : ℕ) where
   -- ---- one change
@@ -33,17 +34,6 @@ module _ (n m : ℕ) where
   add-board S c b h =
       record { range = h .range; weights = residues-table (h .range) _; exponential = residues-table (h .range) _ }
 
-  -- what every change keeps
-  pub record Sound (b : Board) : Type 0 where
-    pub board : IsBoard n m b
-    pub is : exponentialTable n m (b .weights) ≡ b .exponential
-
-  add-sound : (S c : ℕ) (b : Board) → 0 < S → S < 2 ^ n → Sound b → Sound (boardAdd n m S c b)
-  add-sound S c b some code h = record {
-    board = add-board S c b (h .board);
-    is = exponential-raised n m S c some code (b .weights) ∙ ap (raisedOver n m S c) (h .is);
-  }
-
   pub next-accepted : (b : Board) (x : Change) → numberOn n m b x ≡ 0 → next n m b x ≡ changed n m b x
   unfolding next
   next-accepted b x e = ap (λ (k : ℕ). boardAfter k (changed n m b x) b) e
@@ -52,15 +42,38 @@ module _ (n m : ℕ) where
   unfolding next
   next-refused b x k e = ap (λ (k : ℕ). boardAfter k (changed n m b x) b) e
 
+  -- what an accepted change keeps, every change does
+  pub next-keeps : (P : Board → Type 0) (b : Board) (x : Change) → P b → (numberOn n m b x ≡ 0 → P (changed n m b x)) → P (next n m b x)
+  next-keeps P b x h k = by (numberOn n m b x) refl where
+    by : (j : ℕ) → numberOn n m b x ≡ j → P (next n m b x)
+    by zero e = subst P (sym (next-accepted b x e)) (k e)
+    by (suc j) e = subst P (sym (next-refused b x j e)) h
+
+  pub next-board : (b : Board) (x : Change) → IsBoard n m b → IsBoard n m (next n m b x)
+  next-board b x h = next-keeps (IsBoard n m) b x h (λ e. changed-board x) where
+    changed-board : (x : Change) → IsBoard n m (changed n m b x)
+    changed-board (adds S c) = add-board S c b h
+    changed-board (takes S c) = add-board S (lacking m c) b h
+
+  -- what holds of a fresh board, and is kept
+  pub record Sound (b : Board) : Type 0 where
+    pub board : IsBoard n m b
+    pub first : at (b .weights) 0 ≡ 0
+    pub is : exponentialTable n m (b .weights) ≡ b .exponential
+
+  add-sound : (S c : ℕ) (b : Board) → 0 < S → S < 2 ^ n → Sound b → Sound (boardAdd n m S c b)
+  add-sound S c b some code h = record {
+    board = add-board S c b (h .board);
+    first = added-first n m S c some (b .weights) (h .first);
+    is = exponential-raised n m S c some code (b .weights) ∙ ap (raisedOver n m S c) (h .is);
+  }
+
   changed-sound : (b : Board) (x : Change) → numberOn n m b x ≡ 0 → Sound b → Sound (changed n m b x)
   changed-sound b (adds S c) e h = let a = change-accepted n m S c b e in add-sound S c b (a .some) (a .code) h
   changed-sound b (takes S c) e h = let a = change-accepted n m S c b e in add-sound S (lacking m c) b (a .some) (a .code) h
 
   pub next-sound : (b : Board) (x : Change) → Sound b → Sound (next n m b x)
-  next-sound b x h = by (numberOn n m b x) refl where
-    by : (k : ℕ) → numberOn n m b x ≡ k → Sound (next n m b x)
-    by zero e = subst Sound (sym (next-accepted b x e)) (changed-sound b x e h)
-    by (suc k) e = subst Sound (sym (next-refused b x k e)) h
+  next-sound b x h = next-keeps Sound b x h (λ e. changed-sound b x e h)
 
   -- ---- the weight at one set, with what is taken put back
 
@@ -126,6 +139,7 @@ module _ (n m : ℕ) where
         weights = subst (IsTable n m) zeros-table (residues-table r (λ S. 0));
         exponential = subst (IsTable n m) (unit-table n m (r .lowest)) (residues-table r unit);
       };
+      first = at-tabulate (2 ^ n) (λ S. 0) 0 (pow-pos n);
       is = exponential-fresh n m (r .lowest);
     }
 
@@ -136,6 +150,7 @@ module _ (n m : ℕ) where
         record {
           weights-accepted = table-accepts n m _ r (s .board .weights);
           exponential-accepted = table-accepts n m _ r (s .board .exponential);
+          first = s .first;
           exponential-is = sym (s .is);
           weight-is = λ S h.
               let W : ℕ = at (run n m (freshBoard n) xs .weights) S in
@@ -147,6 +162,14 @@ module _ (n m : ℕ) where
               sym (mod-eq-of-lt (s .board .weights .below S)) ∙ sym (mod-sub m (omega (arith, r .lowest)) W t)
               ∙ ap (λ (k : ℕ). (k + (m - t % m)) % m) same ∙ mod-add-mod a m (m - t % m);
         }
+
+    -- and the number of each change is its own
+    pub fresh-numbers : (xs : List Change) → runNumbers n m (freshBoard n) xs ≡ map (ownNumber n m) xs
+    unfolding runNumbers
+    fresh-numbers xs = by (freshBoard n) xs (fresh-sound .board) where
+      by : (b : Board) (xs : List Change) → IsBoard n m b → runNumbers n m b xs ≡ map (ownNumber n m) xs
+      by b [] h = refl
+      by b (x ∷ xs) h = ap₂ _∷_ (own-number n m b x h) (by (next n m b x) xs (next-board b x h))
 
   -- ---- a list that grows at its end
 

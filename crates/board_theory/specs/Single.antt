@@ -27,7 +27,7 @@ single S c T = cond (eqb T S) c 0
 single-here : (S c : ℕ) → single S c S ≡ c
 single-here S c = ap (λ (b : Bool). cond b c 0) (eq-eqb S S refl)
 
-single-away : (S c T : ℕ) → (T ≡ S → ⊥) → single S c T ≡ 0
+pub single-away : (S c T : ℕ) → (T ≡ S → ⊥) → single S c T ≡ 0
 single-away S c T d = ap (λ (b : Bool). cond b c 0) (ne-eqb T S d)
 
 -- ---- by halves

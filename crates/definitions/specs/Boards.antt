@@ -1,16 +1,16 @@
 -- 02's boards: a table A of exercises and a table E, to which weight is added, and from which it is taken, one set at a time.
 -- What each call gives, its number, what a list of changes makes of a fresh board, and the law of such lists.
 use mathlib.Core.Path.{_≡_}
-use mathlib.Core.Bool.{cond, not}
+use mathlib.Core.Bool.{cond}
 use mathlib.Core.List.{List, [], _∷_}
 use Prim.Native.Nat.{ℕ, zero, suc, _+_, _*_, _-_, _%_, _^_, _<_}
-use lib.Dec.{ltb, eqb}
+use lib.Dec.{eqb}
 use lib.ListN.{length}
 use Rattle.definitions.specs.Sums.{tabulate, at}
 use Rattle.definitions.specs.Sets.{inside, without}
 use Rattle.definitions.specs.Products.{residues}
 use Rattle.definitions.specs.Partitions.{exponentialTable, unit}
-use Rattle.definitions.specs.Refusals.{wordIf, firstWord, panelWord, modulusWord, tableWord, entryWord, valueAfter, AcceptedTable}
+use Rattle.definitions.specs.Refusals.{firstWord, panelWord, modulusWord, tableWord, entryWord, weightWord, emptyWord, codeWord, valueAfter, AcceptedTable}
 
 -- 02's A and E
 pub record Board : Type 0 where
@@ -51,19 +51,7 @@ boardTake n m S c b = boardAdd n m S (lacking m c) b
 
 -- ---- numbers
 
--- 11, empty: the set has no control
-abbrev pub emptyWord : ℕ → ℕ
-emptyWord S = wordIf (eqb S 0) 11
-
--- 12, code: the set's code is 2 ^ n or more
-abbrev pub codeWord : ℕ → ℕ → ℕ
-codeWord n S = wordIf (not (ltb S (2 ^ n))) 12
-
--- 5, entry: the weight is not below m
-abbrev pub weightWord : ℕ → ℕ → ℕ
-weightWord m c = wordIf (not (ltb c m)) 5
-
--- a fresh board, made in tables of the lengths of these
+-- a fresh board, made in the place of this one
 unfoldable pub freshNumber : ℕ → ℕ → Board → ℕ
 freshNumber n m b =
     firstWord
@@ -104,6 +92,7 @@ abbrev pub numberOn : ℕ → ℕ → Board → Change → ℕ
 numberOn n m b (adds S c) = changeNumber n m S c b
 numberOn n m b (takes S c) = changeNumber n m S c b
 
+-- the board that it makes of b, if it is accepted
 abbrev pub changed : ℕ → ℕ → Board → Change → Board
 changed n m b (adds S c) = boardAdd n m S c b
 changed n m b (takes S c) = boardTake n m S c b
@@ -141,7 +130,8 @@ total n m weight b (x ∷ xs) = valueAfter (numberOn n m b x) (weight x) + total
 pub record BoardLaw (n m : ℕ) (changes : List Change) (b : Board) : Type 0 where
   pub weights-accepted : AcceptedTable n m (b .weights)
   pub exponential-accepted : AcceptedTable n m (b .exponential)
-  -- E is the exponential of A
+  -- E is the exponential of A, whose first entry is 0
+  pub first : at (b .weights) 0 ≡ 0
   pub exponential-is : b .exponential ≡ exponentialTable n m (b .weights)
   -- A[S] is the added less the taken weight of the accepted changes at S, modulo m
   pub weight-is : (S : ℕ) → S < 2 ^ n

@@ -1,5 +1,6 @@
 -- The inverse under the subset product is a composition: of the table's own sets with the row of inverses.
 --   inverseOf n m u A            the inverse of A, where u is a reciprocal of A's first entry
+--   unit-table                   modulo m, 1 at the empty set is 1
 --   inverse-is                   it is an inverse
 --   inverse-unique               there is but one
 --   inverse-coprime, inverse-exists    there is one exactly where the first entry and m have no common divisor above 1

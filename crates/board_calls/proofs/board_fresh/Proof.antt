@@ -2,24 +2,24 @@ use Prim.Native.Nat.{ℕ}
 use denote.Ref.{now}
 use borrow.Author.Needs.{needs}
 use Rattle.definitions.specs.Partitions.{unit}
-use Rattle.definitions.specs.Boards.{Board, board, freshBoard}
-use Rattle.board_calls.specs.Accepted.{room, unit-room, filled, accepted-board, refused-board}
+use Rattle.definitions.specs.Boards.{board, freshBoard}
+use Rattle.board_calls.specs.Accepted.{room, unit-room, long-enough, accepted-board, refused-board}
 use Rattle.board_calls.proofs.board_fresh.Statement.{statement}
 use Rattle.board_calls.proofs.board_fresh.Tie as tie
 
 check-fresh-requires : tie.Need-check-fresh-requires
 check-fresh-requires c κs = search needs
 
-enum-known-modulus : tie.Need-enum-known-modulus
-enum-known-modulus c = search needs
+enum-told : tie.Need-enum-told
+enum-told c = search needs
 
 fill-zeros-requires : tie.Need-fill-zeros-requires
 fill-zeros-requires c κs = search needs
 
 fill-unit-requires : tie.Need-fill-unit-requires
 fill-unit-requires c κs =
-    let accepting = c .before .before .before .before .before .before in
-    unit-room _ _ (accepting .before .before .check-fresh .ensures) (accepting .modulus .given .1)
+    let accepting = c .before .before .before .before .before in
+    unit-room _ _ (accepting .before .before .check-fresh .ensures) (accepting .enum-told .given .1)
 
 enum-known-word : tie.Need-enum-known-word
 enum-known-word c = search needs
@@ -34,14 +34,14 @@ returns : tie.Need-returns
 returns c =
     let filling = c .before .before in
     let clearing = filling .before .before .before .before in
-    let accepting = clearing .before .before .before in
+    let accepting = clearing .before .before in
     let h = accepting .before .before .check-fresh .ensures in
-    let e = accepting .modulus .given .1 in
+    let e = accepting .enum-told .given .1 in
     let start = accepting .before .before .before .before .before .before .before in
     let long = room _ _ h e in
     accepted-board h e (λ (m : ℕ). freshBoard (start .args .n))
-    (filled (λ (S : ℕ). 0) (clearing .fill-zeros .ensures) (long .weights))
-    (filled unit (filling .fill-unit .ensures) (long .exponential))
+    (long-enough (λ (S : ℕ). 0) (clearing .fill-zeros .ensures) (long .weights))
+    (long-enough unit (filling .fill-unit .ensures) (long .exponential))
 
 same-length-3 : tie.Need-same-length-3
 same-length-3 c = search needs
@@ -60,7 +60,7 @@ board-fresh-spec =
     tie.close
     (tie.spec
     check-fresh-requires
-    enum-known-modulus
+    enum-told
     fill-zeros-requires
     fill-unit-requires
     enum-known-word

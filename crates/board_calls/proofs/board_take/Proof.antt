@@ -53,8 +53,8 @@ returns c =
     let e = accepting .modulus .given .1 in
     let r = taking .subtract .ensures in
     accepted-board h e (new start)
-    (taken-table _ _ _ _ h e (λ (m d : ℕ). addedAt (s .n) m (s .set) d (now (s .a))) r (changing .change .ensures .0))
-    (taken-table _ _ _ _ h e (λ (m d : ℕ). raisedOver (s .n) m (s .set) d (now (s .e))) r (changing .change .ensures .1))
+    (taken-table _ (λ (m d : ℕ). addedAt (s .n) m (s .set) d (now (s .a))) r (changing .change .ensures .0))
+    (taken-table _ (λ (m d : ℕ). raisedOver (s .n) m (s .set) d (now (s .e))) r (changing .change .ensures .1))
 
 same-length-3 : tie.Need-same-length-3
 same-length-3 c = search needs

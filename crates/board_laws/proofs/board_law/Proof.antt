@@ -1,13 +1,14 @@
 use borrow.Author.Needs.{needs}
-use Rattle.board_laws.proofs.Turns.{lawful}
+use Rattle.board_laws.specs.Theorem.{lawful}
+use Rattle.board_laws.proofs.Turns.{fresh-run}
 use Rattle.board_laws.proofs.board_law.Statement.{statement}
 use Rattle.board_laws.proofs.board_law.Tie as tie
 
 board-fresh-requires : tie.Need-board-fresh-requires
 board-fresh-requires c κs = search needs
 
-changes-requires : tie.Need-changes-requires
-changes-requires c κs = search needs
+make-changes-requires : tie.Need-make-changes-requires
+make-changes-requires c κs = search needs
 
 same-length : tie.Need-same-length
 same-length c = search needs
@@ -24,9 +25,9 @@ returns c =
     let freshening = changing .before .before .before .before .before .before .before .before in
     let s = freshening .before .before .before .before .before .before .before .before .before .args in
     let f = freshening .board-fresh .ensures in
-    lawful (s .n) (s .m) _ (f .0) (f .1 .0) (f .1 .1) (changing .changes .ensures)
+    lawful (s .n) (s .m) _ (fresh-run (s .n) (s .m) _ (f .0) (f .1 .0) (f .1 .1) (changing .make-changes .ensures))
 
 pub board-law-spec : {M : Type 1} → statement M
 board-law-spec =
     tie.close
-    (tie.spec board-fresh-requires changes-requires same-length same-length-2 same-length-3 returns)
+    (tie.spec board-fresh-requires make-changes-requires same-length same-length-2 same-length-3 returns)

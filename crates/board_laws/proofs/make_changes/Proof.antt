@@ -6,8 +6,8 @@ use lib.ListN.{length}
 use borrow.Author.Needs.{needs}
 use Rattle.definitions.specs.Boards.{board}
 use Rattle.board_laws.proofs.Turns.{Turn, none-made, one-more-made, all-made}
-use Rattle.board_laws.proofs.changes.Statement.{statement}
-use Rattle.board_laws.proofs.changes.Tie as tie
+use Rattle.board_laws.proofs.make_changes.Statement.{statement}
+use Rattle.board_laws.proofs.make_changes.Tie as tie
 
 abbrev Inv-loop : tie.InvT-loop
 Inv-loop n m kinds sets weights numbers₀ a₀ e₀ count i₀ numbers a e i =
@@ -46,8 +46,8 @@ mul-weight c = omega arith
 shared-slice-read-weight : tie.Need-shared-slice-read-weight Inv-loop μ-loop
 shared-slice-read-weight c = omega arith
 
-change-requires : tie.Need-change-requires Inv-loop μ-loop
-change-requires c κs = search needs
+make-change-requires : tie.Need-make-change-requires Inv-loop μ-loop
+make-change-requires c κs = search needs
 
 keep-requires : tie.Need-keep-requires Inv-loop μ-loop
 keep-requires c κs = search needs
@@ -68,7 +68,7 @@ loop-again c =
       search needs,
       search needs,
       one-more-made (now (s .kinds)) (now (s .sets)) (now (s .weights)) (s .n) (s .m) (board (now (s .a)) (now (s .e))) (now (s .numbers)) (l .i)
-          (l .inv .4) (changing .change .ensures) (c .before .before .keep .ensures),
+          (l .inv .4) (changing .make-change .ensures) (c .before .before .keep .ensures),
     )
 
 same-length : tie.Need-same-length Inv-loop μ-loop
@@ -87,8 +87,8 @@ returns c =
     all-made (now (s .kinds)) (now (s .sets)) (now (s .weights)) (s .n) (s .m) (board (now (s .a)) (now (s .e))) (now (s .numbers))
     (omega (arith, c .before .before .least2 .ensures, c .before .before .before .least .ensures)) (l .inv .4)
 
-pub changes-spec : {M : Type 1} → statement M
-changes-spec =
+pub make-changes-spec : {M : Type 1} → statement M
+make-changes-spec =
     tie.close
     (tie.spec
     Inv-loop
@@ -102,7 +102,7 @@ changes-spec =
     shared-slice-read-set
     mul-weight
     shared-slice-read-weight
-    change-requires
+    make-change-requires
     keep-requires
     add-i
     loop-less

@@ -2,8 +2,8 @@ use denote.Ref.{now}
 use Rattle.board_laws.proofs.Turns.{made-add, made-take}
 use borrow.Author.Needs.{needs}
 use Rattle.definitions.specs.Boards.{board}
-use Rattle.board_laws.proofs.change.Statement.{statement}
-use Rattle.board_laws.proofs.change.Tie as tie
+use Rattle.board_laws.proofs.make_change.Statement.{statement}
+use Rattle.board_laws.proofs.make_change.Tie as tie
 
 board-add-requires : tie.Need-board-add-requires
 board-add-requires c κs = search needs
@@ -35,8 +35,8 @@ returns-2 c =
     let r = c .before .before .before .before .board-take .ensures in
     made-take (s .n) (s .m) (s .kind) (s .set) (s .weight) (board (now (s .a)) (now (s .e))) (r .0) (c .before .before .before .before .before .before .before .if1 .left) (r .1 .0) (r .1 .1)
 
-pub change-spec : {M : Type 1} → statement M
-change-spec =
+pub make-change-spec : {M : Type 1} → statement M
+make-change-spec =
     tie.close
     (tie.spec
     board-add-requires
