@@ -142,10 +142,17 @@ module _ {n : ℕ} {modulus : Modulus} {S c : ℕ} {r : List ℕ} (h : TableRead
       }
 
 -- c added at S
-pub added-set : {n : ℕ} {modulus : Modulus} {S c : ℕ} {r : List ℕ} → TableReady n modulus S c r → {v : ℕ} → v ≡ (at r S + c) % modulus .value → set r S v ≡ addedAt n (modulus .value) S c r
+pub added-set : {n : ℕ} {modulus : Modulus} {S c : ℕ} {r : List ℕ} → TableReady n modulus S c r → {v : ℕ} → v ≡ (at r S + c) % modulus .value
+    → set r S v ≡ addedAt n (modulus .value) S c r
 unfolding addedAt residues
 added-set {n} {modulus} {S} {c} {r} h {v} e =
     ap (λ (u : List ℕ). set u S v) (sym (tabulate-self (2 ^ n) r (h .table .size)))
-    ∙ set-tabulate (2 ^ n) (at r) (λ T. (at r T + cond (eqb T S) c 0) % modulus .value) S v (h .code)
-    (e ∙ ap (λ (b : Bool). (at r S + cond b c 0) % modulus .value) (sym (eq-eqb S S refl)))
-    (λ T k d. sym (ap (λ (b : Bool). (at r T + cond b c 0) % modulus .value) (ne-eqb T S d) ∙ ap (λ (x : ℕ). x % modulus .value) (add-zero (at r T)) ∙ mod-eq-of-lt (h .table .below T)))
+    ∙ set-tabulate (2 ^ n) (at r) (λ T. (at r T + cond (eqb T S) c 0) % m) S v (h .code)
+    (e ∙ ap (λ (b : Bool). (at r S + cond b c 0) % m) (sym (eq-eqb S S refl))) (λ T k d. sym (stays T d))
+  where
+    m : ℕ
+    m = modulus .value
+
+    stays : (T : ℕ) → T ≢ S → (at r T + cond (eqb T S) c 0) % m ≡ at r T
+    stays T d =
+        ap (λ (b : Bool). (at r T + cond b c 0) % m) (ne-eqb T S d) ∙ ap (λ (x : ℕ). x % m) (add-zero (at r T)) ∙ mod-eq-of-lt (h .table .below T)

@@ -17,7 +17,8 @@ use Rattle.definitions.specs.Sums.{tabulate, at}
 use Rattle.definitions.specs.Products.{residues}
 use Rattle.definitions.specs.Partitions.{exponentialTable, unit}
 use Rattle.definitions.specs.Refusals.{valueAfter}
-use Rattle.definitions.specs.Boards.{Board, addedAt, raisedOver, freshBoard, boardAdd, lacking, boardAfter, Change, adds, takes, numberOn, changed, next, run, runNumbers, addsAt, takesAt, total, BoardLaw}
+use Rattle.definitions.specs.Boards.{Board, addedAt, raisedOver, freshBoard, boardAdd, lacking, boardAfter}
+use Rattle.definitions.specs.Boards.{Change, adds, takes, numberOn, changed, next, run, runNumbers, addsAt, takesAt, total, BoardLaw}
 use Rattle.theory.specs.Lists.{at-tabulate, tabulate-ext}
 use Rattle.theory.specs.Remainders.{mod-add, mod-sub}
 use Rattle.theory.specs.Inverse.{unit-table}

@@ -19,9 +19,11 @@ same-length-2 c = search needs
 
 returns : tie.Need-returns
 returns c =
-    let s = c .before .before .before .before .before .before .before .before .before .before .args in
-    let r = c .before .before .before .before .board-add .ensures in
-    made-add (s .n) (s .m) (s .kind) (s .set) (s .weight) (board (now (s .a)) (now (s .e))) (r .0) (c .before .before .before .before .before .before .before .if1 .taken) (r .1 .0) (r .1 .1)
+    let adding = c .before .before .before .before in
+    let choosing = adding .before .before .before in
+    let s = choosing .before .before .before .args in
+    let r = adding .board-add .ensures in
+    made-add (s .n) (s .m) (s .kind) (s .set) (s .weight) (board (now (s .a)) (now (s .e))) (r .0) (choosing .if1 .taken) (r .1 .0) (r .1 .1)
 
 same-length-3 : tie.Need-same-length-3
 same-length-3 c = search needs
@@ -31,9 +33,11 @@ same-length-4 c = search needs
 
 returns-2 : tie.Need-returns-2
 returns-2 c =
-    let s = c .before .before .before .before .before .before .before .before .before .before .args in
-    let r = c .before .before .before .before .board-take .ensures in
-    made-take (s .n) (s .m) (s .kind) (s .set) (s .weight) (board (now (s .a)) (now (s .e))) (r .0) (c .before .before .before .before .before .before .before .if1 .left) (r .1 .0) (r .1 .1)
+    let taking = c .before .before .before .before in
+    let choosing = taking .before .before .before in
+    let s = choosing .before .before .before .args in
+    let r = taking .board-take .ensures in
+    made-take (s .n) (s .m) (s .kind) (s .set) (s .weight) (board (now (s .a)) (now (s .e))) (r .0) (choosing .if1 .left) (r .1 .0) (r .1 .1)
 
 pub make-change-spec : {M : Type 1} → statement M
 make-change-spec =

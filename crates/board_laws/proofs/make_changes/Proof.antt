@@ -26,7 +26,8 @@ least-requires-2 c κs = search needs
 loop-holds : tie.Need-loop-holds Inv-loop μ-loop
 loop-holds c =
     let s = c .before .before .before .before .before .before .before .before .args in
-    (search needs, search needs, search needs, search needs, none-made (now (s .kinds)) (now (s .sets)) (now (s .weights)) (s .n) (s .m) (board (now (s .a)) (now (s .e))) (now (s .numbers)))
+    let none = none-made (now (s .kinds)) (now (s .sets)) (now (s .weights)) (s .n) (s .m) (board (now (s .a)) (now (s .e))) (now (s .numbers)) in
+    (search needs, search needs, search needs, search needs, none)
 
 mul-kind : tie.Need-mul-kind Inv-loop μ-loop
 mul-kind c = omega arith

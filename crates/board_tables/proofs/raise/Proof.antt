@@ -49,7 +49,9 @@ loop-less : tie.Need-loop-less Inv-loop μ-loop
 loop-less c = next-nearer _ _ _ (omega (arith, c .before .before .before .before .loop .inv .size))
 
 loop-again : tie.Need-loop-again Inv-loop μ-loop
-loop-again c = raising-more (c .before .before .before .before .before .before .pre) (c .before .before .before .before .loop .inv) (c .before .before .before .loop-test .taken) (c .add-product .ensures .same)
+loop-again c =
+    let turn = c .before .before .before in
+    raising-more (turn .before .before .before .pre) (turn .before .loop .inv) (turn .loop-test .taken) (c .add-product .ensures .same)
 
 same-length : tie.Need-same-length Inv-loop μ-loop
 same-length c = c .before .loop .inv .size
