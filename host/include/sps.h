@@ -14,9 +14,9 @@
  * a longer pad is unchanged.
  *
  * Refusals.  A call answers with a number: 0 when it is accepted, else that of the first of its conditions that applies, in
- * the order in which its comment names them.  (That order rises, except for files and boards.)  Functions that answer more
- * return it packed with the number into 64 bits, as each says.  A refused call changes nothing that it was lent, and every
- * other number that it answers is 0.
+ * the order in which its comment names them.  (It rises, except in reading files and in changes of boards.)  Functions that
+ * answer more return it packed with the number into 64 bits, as each says.  A refused call changes nothing that it was lent,
+ * and every other number that it answers is 0.
  */
 #ifndef SPS_H
 #define SPS_H
@@ -150,14 +150,15 @@ uint32_t sps_board_fresh(uint32_t n, uint32_t m,
                          uint32_t *a, size_t a_len,
                          uint32_t *e, size_t e_len);
 
-/* Adds the weight at the set with this code: a[set] grows by it, and for each T that contains the set e[T] grows by the weight
- * times the old e[T without the set].  Any two tables of residues do.  Refusals 1, 2, 3, 11, 12, 5, in this order; 5 for an entry
- * of a or e and for the weight.  Time 2^n. */
+/* Adds the weight at the set with this code: a[set] grows by it, and for each T that contains the set e[T] grows by the
+ * weight times the old e[T without the set].  Any two tables of residues do.  Refusals 1, 2, 3, 11, 12, 5, in this order; 5
+ * for an entry of a or e and for the weight.  Time 2^n. */
 uint32_t sps_board_add(uint32_t n, uint32_t m, uint32_t set, uint32_t weight,
                        uint32_t *a, size_t a_len,
                        uint32_t *e, size_t e_len);
 
-/* Takes the weight out at the set: adds m - weight, so that more may be taken than was added.  Refusals and time as above. */
+/* Takes the weight out at the set: adds m - weight, so that more may be taken than was added.  Refusals and time as for
+ * adding. */
 uint32_t sps_board_take(uint32_t n, uint32_t m, uint32_t set, uint32_t weight,
                         uint32_t *a, size_t a_len,
                         uint32_t *e, size_t e_len);

@@ -12,22 +12,19 @@ use lib.Pow.{pow-pos}
 use Rattle.definitions.specs.Sums.{tabulate}
 use Rattle.definitions.specs.Refusals.{after}
 use Rattle.definitions.specs.Boards.{Board, lacking, freshNumber, changeNumber}
-use Rattle.residues.specs.Moduli.{Valid, Residue}
+use Rattle.residues.specs.Moduli.{Residue}
 use Rattle.residues.specs.declared.Modulus.{Modulus}
 use Rattle.checks.specs.Answers.{IsChecked, accepted, refused, word-kept}
 use Rattle.checks.specs.declared.Checked.{Checked}
 use Rattle.checks.specs.declared.Checked.the-variants.{Accepted, Refused}
 use Rattle.board_theory.specs.Accepted.{IsChange, IsRoom, change-accepted, fresh-accepted}
+use Rattle.board_tables.specs.Ready.{BoardReady}
 
 -- a table made with what the weight c lacks to the modulus
 pub taken-table : {m : ℕ} (c : ℕ) {d : ℕ} (f : ℕ → ℕ → List ℕ) {l : List ℕ} → Residue m (0 + (m - c)) d → l ≡ f m d → l ≡ f m (lacking m c)
 taken-table {m} c f r p = p ∙ ap (f m) (r .same ∙ ap (λ (k : ℕ). k % m) (zero-add (m - c)))
 
 -- ---- the work
-
-pub record BoardReady (n : ℕ) (modulus : Modulus) (S c : ℕ) (b : Board) : Type 0 where
-  pub valid : Valid modulus
-  pub change : IsChange n (modulus .value) S c b
 
 module _ (n : ℕ) {m : ℕ} (S c : ℕ) (b : Board) {answer : Checked} {modulus : Modulus} (h : IsChecked m (changeNumber n m S c b) answer) (e : answer ≡ Accepted modulus) where
   pub ready : BoardReady n modulus S c b

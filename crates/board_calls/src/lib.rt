@@ -2,26 +2,12 @@
 ghost use mathlib.Core.Path.{_≡_};
 ghost use Rattle.definitions.specs.Refusals.{after};
 ghost use Rattle.definitions.specs.Boards.{board, addedAt, raisedOver, lacking, freshBoard, freshNumber, changeNumber};
-ghost use Rattle.board_calls.specs.Accepted.{BoardReady};
 use board_checks::check_change;
 use board_checks::check_fresh;
-use board_tables::add_at;
+use board_tables::change;
 use board_tables::fill_unit;
 use board_tables::fill_zeros;
-use board_tables::raise;
 use checks::Checked;
-use residues::Modulus;
-
-// Both tables of an accepted change.
-fn change(n: u32, modulus: Modulus, set: u32, weight: u32, a: &mut [u32], e: &mut [u32])
-    requires { ⌜ BoardReady n modulus set weight (board (now a) (now e)) ⌝ }
-    ensures { λ _. ⌜ now (a .exit) ≡ addedAt n (modulus .value) set weight (now (a .entry)) ⌝ }
-    ensures { λ _. ⌜ now (e .exit) ≡ raisedOver n (modulus .value) set weight (now (e .entry)) ⌝ }
-{
-    let code = set as usize;
-    add_at(n, modulus, code, weight, a);
-    raise(n, modulus, code, weight, e);
-}
 
 // A fresh board: a all 0, and e equal to 1 at the empty set and 0 elsewhere. Costs O(2^n).
 pub fn board_fresh(n: u32, m: u32, a: &mut [u32], e: &mut [u32]) -> u32
@@ -39,8 +25,8 @@ pub fn board_fresh(n: u32, m: u32, a: &mut [u32], e: &mut [u32]) -> u32
     }
 }
 
-// Adds the weight at the set: in a there; in e at each set that contains it, times the old entry of that one without it. Costs
-// O(2^n).
+// Adds the weight at the set: a grows by it there, and e, at each set that contains it, by it times the old entry of that set
+// without it. Costs O(2^n).
 pub fn board_add(n: u32, m: u32, set: u32, weight: u32, a: &mut [u32], e: &mut [u32]) -> u32
     ensures { λ r. ⌜ r ≡ changeNumber n m set weight (board (now (a .entry)) (now (e .entry))) ⌝ }
     ensures { λ r. ⌜ now (a .exit) ≡ after r (addedAt n m set weight (now (a .entry))) (now (a .entry)) ⌝ }
@@ -48,7 +34,7 @@ pub fn board_add(n: u32, m: u32, set: u32, weight: u32, a: &mut [u32], e: &mut [
 {
     match check_change(n, m, set, weight, a, e) {
         Checked::Accepted(modulus) => {
-            change(n, modulus, set, weight, a, e);
+            change(n, modulus, set as usize, weight, a, e);
             0
         }
         Checked::Refused(word) => word,
@@ -64,7 +50,7 @@ pub fn board_take(n: u32, m: u32, set: u32, weight: u32, a: &mut [u32], e: &mut 
     match check_change(n, m, set, weight, a, e) {
         Checked::Accepted(modulus) => {
             let lacking = modulus.subtract(0, weight);
-            change(n, modulus, set, lacking, a, e);
+            change(n, modulus, set as usize, lacking, a, e);
             0
         }
         Checked::Refused(word) => word,

@@ -1,5 +1,5 @@
 -- 02's law of boards as one statement about calls: a fresh board, and then the changes of a lent list. In this order: the list, the
--- calls, what each promises, the law.
+-- calls, what they promise, the law.
 use mathlib.Core.Path.{_≡_}
 use mathlib.Core.List.{List, [], _∷_, _++_}
 use Prim.Native.Nat.{ℕ, zero, suc, min}
@@ -35,7 +35,7 @@ pub record Calls : Type 0 where
   pub lent : List ℕ  -- the slice for the numbers of the changes, as it was
   pub kept : List ℕ  -- and as it then is
 
--- ---- what each promises
+-- ---- what they promise
 
 -- one change of the board b, which returned r and left c
 pub record ChangeMade (n m : ℕ) (x : Change) (b : Board) (r : ℕ) (c : Board) : Type 0 where
@@ -59,8 +59,8 @@ pub record Run (n m : ℕ) (c : Calls) : Type 0 where
 
 -- ---- the law
 
--- what the function that makes the calls promises: each call's own promise, whatever it was lent, and the law if a fresh board
--- was made
+-- what the function that makes the calls promises: what these promise one after the other, whatever they were lent, and the law
+-- if a fresh board was made
 pub record Lawful (n m : ℕ) (c : Calls) : Type 0 where
   pub run : Run n m c
   pub law : c .fresh ≡ 0 → BoardLaw n m (c .changes) (c .left)

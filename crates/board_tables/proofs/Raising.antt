@@ -14,13 +14,14 @@ use Rattle.definitions.specs.Limits.{largestModulus}
 use Rattle.definitions.specs.Sums.{tabulate, at}
 use Rattle.definitions.specs.Sets.{inside, without}
 use Rattle.definitions.specs.Products.{residues}
-use Rattle.definitions.specs.Boards.{addedAt, raisedOver}
+use Rattle.definitions.specs.Boards.{Board, addedAt, raisedOver}
 use Rattle.theory.specs.Tests.{no-test, yes-test, below-or}
 use Rattle.theory.specs.Lists.{at-tabulate, tabulate-ext, tabulate-of, tabulate-self, set-tabulate}
 use Rattle.theory.specs.Entries.{at-below, below-anywhere}
 use Rattle.theory.specs.Codes.{inside→eq, eq→inside, inside-le, apart-rest}
 use Rattle.residues.specs.declared.Modulus.{Modulus}
-use Rattle.board_tables.specs.Ready.{TableReady}
+use Rattle.checks.specs.Accepted.{IsTable}
+use Rattle.board_tables.specs.Ready.{TableReady, BoardReady}
 use Rattle.board_tables.proofs.Supersets.{next-contains, next-above, next-least}
 
 -- a product of two residues leaves room for one more residue
@@ -95,23 +96,23 @@ module _ {n : ℕ} {modulus : Modulus} {S c : ℕ} {r : List ℕ} (h : TableRead
         let j : i < 2 ^ n = omega (arith, p .size, h .table .size) in
         omega (arith, ap (λ (u : List ℕ). at u i) (p .is), at-tabulate (2 ^ n) (raisedTo m S c r t) i j, to-small t i)))
 
-    pub raising-all : length l ≤ t → l ≡ raisedOver n m S c r
+    pub raising-all : 2 ^ n ≤ t → l ≡ raisedOver n m S c r
     unfolding raisedOver residues raisedEntry
-    raising-all k = p .is ∙ tabulate-ext (2 ^ n) _ (raisedEntry m S c r) (λ T j. to-passed t T (omega (arith, p .size, h .table .size)))
+    raising-all k = p .is ∙ tabulate-ext (2 ^ n) _ (raisedEntry m S c r) (λ T j. to-passed t T (omega arith))
 
-    module _ (more : t < length l) where
-      below-all : t < 2 ^ n
-      below-all = omega (arith, p .size, h .table .size)
+    module _ (more : t < 2 ^ n) where
+      pub fits : t < length l
+      fits = omega (arith, p .size, h .table .size)
 
       -- T without S does not contain S
       rest-lacks : inside S (t - S) ≡ false
       rest-lacks = no-test (inside S (t - S)) (λ q. omega (arith, h .some, inside→eq S (t - S) q, apart-rest S t (p .contains)))
 
       read-rest : at l (t - S) ≡ at r (t - S)
-      read-rest = ap (λ (u : List ℕ). at u (t - S)) (p .is) ∙ at-tabulate (2 ^ n) _ (t - S) (omega (arith, below-all)) ∙ to-stays t (t - S) rest-lacks
+      read-rest = ap (λ (u : List ℕ). at u (t - S)) (p .is) ∙ at-tabulate (2 ^ n) _ (t - S) (omega arith) ∙ to-stays t (t - S) rest-lacks
 
       read-here : at l t ≡ at r t
-      read-here = ap (λ (u : List ℕ). at u t) (p .is) ∙ at-tabulate (2 ^ n) _ t below-all ∙ to-behind t t (omega arith)
+      read-here = ap (λ (u : List ℕ). at u t) (p .is) ∙ at-tabulate (2 ^ n) _ t more ∙ to-behind t t (omega arith)
 
       entry-here : raisedEntry m S c r t ≡ (at r t + c * at r (t - S)) % m
       unfolding raisedEntry
@@ -136,23 +137,29 @@ module _ {n : ℕ} {modulus : Modulus} {S c : ℕ} {r : List ℕ} (h : TableRead
         contains = next-contains S (t + 1);
         size = length-set l t v ∙ p .size;
         is = ap (λ (u : List ℕ). set u t v) (p .is)
-            ∙ set-tabulate (2 ^ n) (raisedTo m S c r t) (raisedTo m S c r (bitOr (t + 1) S)) t v below-all
+            ∙ set-tabulate (2 ^ n) (raisedTo m S c r t) (raisedTo m S c r (bitOr (t + 1) S)) t v more
             (e ∙ ap₂ (λ (x y : ℕ). (x + c * y) % m) read-here read-rest ∙ sym entry-here ∙ sym (to-passed (bitOr (t + 1) S) t (next-above S t)))
             (λ T k d. skipped T d);
       }
 
 -- c added at S
-pub added-set : {n : ℕ} {modulus : Modulus} {S c : ℕ} {r : List ℕ} → TableReady n modulus S c r → {v : ℕ} → v ≡ (at r S + c) % modulus .value
-    → set r S v ≡ addedAt n (modulus .value) S c r
+pub added-set : {n : ℕ} {modulus : Modulus} {S c : ℕ} {b : Board} → BoardReady n modulus S c b → {v : ℕ} → v ≡ (at (b .weights) S + c) % modulus .value
+    → set (b .weights) S v ≡ addedAt n (modulus .value) S c (b .weights)
 unfolding addedAt residues
-added-set {n} {modulus} {S} {c} {r} h {v} e =
-    ap (λ (u : List ℕ). set u S v) (sym (tabulate-self (2 ^ n) r (h .table .size)))
-    ∙ set-tabulate (2 ^ n) (at r) (λ T. (at r T + cond (eqb T S) c 0) % m) S v (h .code)
-    (e ∙ ap (λ (b : Bool). (at r S + cond b c 0) % m) (sym (eq-eqb S S refl))) (λ T k d. sym (stays T d))
+added-set {n} {modulus} {S} {c} {b} h {v} e =
+    ap (λ (u : List ℕ). set u S v) (sym (tabulate-self (2 ^ n) A (table .size)))
+    ∙ set-tabulate (2 ^ n) (at A) (λ T. (at A T + cond (eqb T S) c 0) % m) S v (h .change .code)
+    (e ∙ ap (λ (g : Bool). (at A S + cond g c 0) % m) (sym (eq-eqb S S refl))) (λ T k d. sym (stays T d))
   where
     m : ℕ
     m = modulus .value
 
-    stays : (T : ℕ) → T ≢ S → (at r T + cond (eqb T S) c 0) % m ≡ at r T
+    A : List ℕ
+    A = b .weights
+
+    table : IsTable n m A
+    table = h .change .board .weights
+
+    stays : (T : ℕ) → T ≢ S → (at A T + cond (eqb T S) c 0) % m ≡ at A T
     stays T d =
-        ap (λ (b : Bool). (at r T + cond b c 0) % m) (ne-eqb T S d) ∙ ap (λ (x : ℕ). x % m) (add-zero (at r T)) ∙ mod-eq-of-lt (h .table .below T)
+        ap (λ (g : Bool). (at A T + cond g c 0) % m) (ne-eqb T S d) ∙ ap (λ (x : ℕ). x % m) (add-zero (at A T)) ∙ mod-eq-of-lt (table .below T)

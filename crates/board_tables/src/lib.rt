@@ -4,9 +4,10 @@ ghost use Prim.Native.Nat.{_+_, _*_, _<_};
 ghost use lib.ListN.{length};
 ghost use Rattle.definitions.specs.Sums.{tabulate};
 ghost use Rattle.definitions.specs.Partitions.{unit};
-ghost use Rattle.definitions.specs.Boards.{addedAt, raisedOver};
+ghost use Rattle.definitions.specs.Boards.{board, addedAt, raisedOver};
 ghost use Rattle.residues.specs.Moduli.{Valid, Below, Residue};
-ghost use Rattle.board_tables.specs.Ready.{TableReady};
+ghost use Rattle.board_tables.specs.Ready.{TableReady, BoardReady};
+use pads::power;
 use residues::Modulus;
 
 // 0 everywhere.
@@ -25,15 +26,6 @@ pub fn fill_unit(table: &mut [u32])
     table[0] = 1;
 }
 
-// The weight is added at the set.
-pub fn add_at(n: u32, modulus: Modulus, set: usize, weight: u32, table: &mut [u32])
-    requires { ⌜ TableReady n modulus set weight (now table) ⌝ }
-    ensures { λ _. ⌜ now (table .exit) ≡ addedAt n (modulus .value) set weight (now (table .entry)) ⌝ }
-{
-    let x = table[set];
-    table[set] = modulus.add(x, weight);
-}
-
 // x and a product, with one division: there is room for one more residue beside a product of two.
 fn add_product(modulus: Modulus, x: u32, a: u32, b: u32) -> u32
     requires { ⌜ Valid modulus ⌝ }
@@ -45,19 +37,30 @@ fn add_product(modulus: Modulus, x: u32, a: u32, b: u32) -> u32
     modulus.reduce((x as u64) + product)
 }
 
-// Each set that contains `set` gets the weight times the entry of that set without it. The sets are passed in rising code:
-// the next number above t that contains `set` is (t + 1) | set. The entries that are read are of sets that do not contain
-// it, so they are the old ones.
-pub fn raise(n: u32, modulus: Modulus, set: usize, weight: u32, table: &mut [u32])
+// The entry of each set that contains `set` grows by the weight times the entry of that set without it. In rising code
+// the next one after t is (t + 1) | set. What is read is of sets that do not contain `set`, so it is old.
+fn raise(n: u32, modulus: Modulus, set: usize, weight: u32, table: &mut [u32])
     requires { ⌜ TableReady n modulus set weight (now table) ⌝ }
     ensures { λ _. ⌜ now (table .exit) ≡ raisedOver n (modulus .value) set weight (now (table .entry)) ⌝ }
 {
+    let long = power(n);
     let mut t = set;
-    while t < table.len() {
+    while t < long {
         let rest = t - set;
         let y = table[rest];
         let x = table[t];
         table[t] = add_product(modulus, x, weight, y);
         t = (t + 1) | set;
     }
+}
+
+// An accepted change, with this weight to add at the set.
+pub fn change(n: u32, modulus: Modulus, set: usize, weight: u32, a: &mut [u32], e: &mut [u32])
+    requires { ⌜ BoardReady n modulus set weight (board (now a) (now e)) ⌝ }
+    ensures { λ _. ⌜ now (a .exit) ≡ addedAt n (modulus .value) set weight (now (a .entry)) ⌝ }
+    ensures { λ _. ⌜ now (e .exit) ≡ raisedOver n (modulus .value) set weight (now (e .entry)) ⌝ }
+{
+    let x = a[set];
+    a[set] = modulus.add(x, weight);
+    raise(n, modulus, set, weight, e);
 }
