@@ -1,4 +1,4 @@
-// Measures each call of the library next to a plain implementation, in interleaved rounds of one run, and prints ratios.
+// Measures each call of the library (of the two changes of a board, adding) next to a plain implementation, in interleaved rounds of one run, and prints ratios.
 // Times are processor time; every buffer was written before it is measured.
 #include <algorithm>
 #include <cstdio>
@@ -32,6 +32,8 @@ struct Data {
     Table f = random(3, n + 1), g = random(4, n + 1);
     Table result = Table(entries, 1), row = Table(n + 1, 1), pad = Table(SPS_PAD_LENGTH(n), 1);
     Table plain_result = result, plain_row = row, work = pad;
+    Table board_a = a, board_e = b, plain_a = a, plain_e = b;
+    u32 weight = random(5, 1)[0];
     std::vector<u8> file = std::vector<u8>(6 + 5 * entries, 1), buffer = file, plain_buffer = file;
     std::size_t file_length;
 
@@ -51,13 +53,18 @@ struct Data {
     }
 };
 
-// A call of the library and its yardstick, a plain form on the same inputs or another call; `odd_only` where even moduli are refused.
+// A call of the library and its yardstick, a plain form on the same inputs or (`other`) another call of the library; `odd_only`
+// where even moduli are refused.
 struct Bench {
     std::string call, yardstick;
     std::function<u64(Data &)> library;
     std::function<u64(Data &)> plain;
     bool odd_only = false;
+    bool other = false;
 };
+
+// So many controls from the middle of a panel.
+u32 middle(u32 n, u32 size) { return ((1u << size) - 1) << (n - size) / 2; }
 
 // The plain form of a product together with what the contract asks besides it: entries are tested, the pad is left 0.
 template <typename Product>
@@ -81,7 +88,7 @@ template <typename Form>
 std::vector<Bench> benches() {
     std::vector<Bench> all;
     // A plain form that returns nothing stands for one that answers 0.
-    auto add = [&](const char *call, const char *yardstick, auto library, auto plain, bool odd_only = false) {
+    auto add = [&](std::string call, const char *yardstick, auto library, auto plain, bool odd_only = false) {
         auto answering = [plain](Data &d) {
             if constexpr (std::is_void_v<decltype(plain(d))>) {
                 return plain(d), u64{0};
@@ -90,6 +97,10 @@ std::vector<Bench> benches() {
             }
         };
         all.push_back({call, yardstick, library, answering, odd_only});
+    };
+    // Next to another call of the library, round by round: the cost in that call.
+    auto add_in = [&](const char *other, std::string call, auto library, auto other_call) {
+        all.push_back({call, other, library, other_call, false, true});
     };
 
     auto subset = [](Data &d) { return sps_subset_product(d.n, d.m, TABLE(a), TABLE(b), RESULT, PAD); };
@@ -114,10 +125,26 @@ std::vector<Bench> benches() {
     add("projection", "plain", projection, [](Data &d) {
         plain::By<Form>::projection(d.n, d.m, d.a.data(), d.first_zero.data(), d.plain_row.data(), d.work.data());
     });
-    // Next to the library's own product, round by round: the cost in subset products.
-    add("projection", "subset product", projection, [](Data &d) {
+    add_in("subset product", "projection", projection, [](Data &d) {
         return sps_subset_product(d.n, d.m, TABLE(a), TABLE(b), d.work.data(), d.entries, PAD) & 0xffffffff;
     });
+
+    add("fresh board", "plain", [](Data &d) { return sps_board_fresh(d.n, d.m, TABLE(board_a), TABLE(board_e)); },
+        [](Data &d) { plain::board_fresh(d.n, d.plain_a.data(), d.plain_e.data()); });
+    for (u32 size : {1, 2, 8}) {
+        std::string call = "add, |S| = " + std::to_string(size);
+        auto board_add = [size](Data &d) {
+            return sps_board_add(d.n, d.m, middle(d.n, size), d.weight, TABLE(board_a), TABLE(board_e));
+        };
+        add(call, "plain + tests", board_add, [size](Data &d) -> u64 {
+            if (!plain::all_below(d.n, d.m, d.plain_a.data()) || !plain::all_below(d.n, d.m, d.plain_e.data())) return SPS_ENTRY;
+            plain::board_add(d.n, d.m, middle(d.n, size), d.weight, d.plain_a.data(), d.plain_e.data());
+            return 0;
+        });
+        add_in("exponential", call, board_add, [](Data &d) {
+            return sps_exponential(d.n, d.m, TABLE(first_zero), d.work.data(), d.entries, PAD);
+        });
+    }
 
     auto union_ = [](Data &d) { return sps_union_product(d.n, d.m, TABLE(a), TABLE(b), RESULT, PAD); };
     auto plain_union = PLAIN_PRODUCT(union_product);
@@ -143,10 +170,15 @@ std::vector<Bench> benches() {
     return all;
 }
 
-// Both give the same; this also writes every buffer once before it is measured.
+// Both give the same, from the same full board; two calls of the library are both accepted. This also writes every buffer once
+// before it is measured.
 void compare(const Bench &bench, Data &d) {
+    d.board_a = d.plain_a = d.a;
+    d.board_e = d.plain_e = d.b;
     u64 library = bench.library(d), plain = bench.plain(d);
-    if (library != plain || d.result != d.plain_result || d.row != d.plain_row || d.buffer != d.plain_buffer) {
+    bool same = d.result == d.plain_result && d.row == d.plain_row && d.buffer == d.plain_buffer && d.board_a == d.plain_a
+        && d.board_e == d.plain_e;
+    if (library != plain || !(same || bench.other)) {
         std::fprintf(stderr, "%s with n = %u, m = %u: the two differ\n", bench.call.c_str(), d.n, d.m);
         std::exit(EXIT_FAILURE);
     }
@@ -213,15 +245,16 @@ int main() {
 
     std::printf("Medians of %d interleaved rounds. Plain forms refuse nothing and clear no pad; from exponential to\n"
                 "projection they work by the scalar subset product. Duties: what the contract asks of a call besides its\n"
-                "product, that is testing every entry, the ceiling (subset product) and clearing the pad. The yardstick\n"
-                "\"subset product\" is the library's own call.\n\n", ROUNDS);
+                "product, that is testing every entry, the ceiling (subset product) and clearing the pad. The yardsticks\n"
+                "\"subset product\" and \"exponential\" are the library's own calls. Weight is added to a board at controls\n"
+                "from the middle of the panel; tests are those of every entry.\n\n", ROUNDS);
     std::printf("%-44s library / yardstick at n =     library's growth   n = 16 in subset\n", "");
     std::printf("%-17s %-16s %-10s %6u %6u %6u %6u     12 to 14  14 to 16   products        ms\n",
                 "call", "yardstick", "modulus", 8, 12, 14, 16);
     for (std::size_t i = 0; i < below_31.size(); i++) {
         for (auto &[m, times] : measured[i]) {
             std::printf("%-17s %-16s %-10u", below_31[i].call.c_str(), below_31[i].yardstick.c_str(), m);
-            for (u32 n : PANELS) std::printf(" %6.2f", times[n].ratio);
+            for (u32 n : PANELS) std::printf(times[n].ratio < 0.1 ? " %6.4f" : " %6.2f", times[n].ratio);
             std::printf("     %8.2f  %8.2f", times[14].library / times[12].library, times[16].library / times[14].library);
             std::printf("   %8.3f", times[16].library / measured[0][m][16].library);
             std::printf("  %8.3f\n", times[16].library * 1000);

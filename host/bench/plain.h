@@ -55,6 +55,10 @@ u32 ceiling(u32 n, const u32 *table);
 
 void binomial_product(u32 n, u32 m, const u32 *f, const u32 *g, u32 *result);
 
+// Boards, changed in place: a table of exercises and its exponential.
+void board_fresh(u32 n, u32 *a, u32 *e);
+void board_add(u32 n, u32 m, u32 set, u32 weight, u32 *a, u32 *e);
+
 // Each answers what the library's function of the same name does, of files that are in order.
 u64 header_check(const u8 *bytes, std::size_t length);
 u64 read_table(const u8 *bytes, std::size_t length, u32 *table);

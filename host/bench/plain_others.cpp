@@ -1,12 +1,13 @@
-// Test of entries, entrywise calls, union and xor product, binomial product and table files as plain loops.
+// Test of entries, entrywise calls, union and xor product, binomial product, boards and table files as plain loops.
 #include "plain.h"
 
 #include <algorithm>
 
+// Collected in 32 bits, which the compiler makes better vectors of than a bool.
 bool plain::all_below(u32 n, u32 m, const u32 *table) {
-    bool below = true;
-    for (std::size_t i = 0; i < std::size_t{1} << n; i++) below &= table[i] < m;
-    return below;
+    u32 above = 0;
+    for (std::size_t i = 0; i < std::size_t{1} << n; i++) above |= table[i] >= m;
+    return above == 0;
 }
 
 template <typename Form>
@@ -87,6 +88,20 @@ static u32 take_number(const u8 *&at) {
 static void put_number(u8 *&at, u32 value) {
     for (; value >= 0x80; value >>= 7) *at++ = static_cast<u8>(value | 0x80);
     *at++ = static_cast<u8>(value);
+}
+
+void plain::board_fresh(u32 n, u32 *a, u32 *e) {
+    std::fill(a, a + (std::size_t{1} << n), 0);
+    std::fill(e, e + (std::size_t{1} << n), 0);
+    e[0] = 1;
+}
+
+// The sets that contain the set, in rising code.
+void plain::board_add(u32 n, u32 m, u32 set, u32 weight, u32 *a, u32 *e) {
+    a[set] = static_cast<u32>((u64{a[set]} + weight) % m);
+    for (std::size_t all = set; all < std::size_t{1} << n; all = (all + 1) | set) {
+        e[all] = static_cast<u32>((e[all] + u64{weight} * e[all - set]) % m);
+    }
 }
 
 u64 plain::header_check(const u8 *bytes, std::size_t) {

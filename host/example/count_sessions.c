@@ -3,7 +3,8 @@
  * The table says how many exercises there are for each set of controls. A session uses each control of the panel exactly
  * once, so the number of sessions is the whole panel's entry of the table's exponential. That number outgrows a machine
  * word; what is printed is its residue under several moduli, each by itself. Under the file's modulus also how the sessions
- * divide by their number of exercises, which is the projection of the table that is 1 at the empty set, and of the file's. */
+ * divide by their number of exercises, which is the projection of the table that is 1 at the empty set, and of the file's; and
+ * how many are left when an exercise is withdrawn, by a board. */
 #include <stdio.h>
 #include <stdlib.h>
 
@@ -74,6 +75,34 @@ static void divide_sessions(uint32_t n, uint32_t m) {
     free(one);
 }
 
+/* Puts the exercises on a board, and takes one off it again. */
+static void withdraw_exercise(uint32_t n, uint32_t m) {
+    const size_t length = SPS_TABLE_LENGTH(n);
+    uint32_t first = 0; /* the first set that has exercises */
+    uint32_t *a = malloc(length * sizeof *a);
+    uint32_t *e = malloc(length * sizeof *e);
+    if (a == NULL || e == NULL) exit(EXIT_FAILURE);
+
+    uint32_t number = sps_board_fresh(n, m, a, length, e, length);
+    for (uint32_t set = 1; set < length && number == SPS_ACCEPTED; set++) {
+        if (table[set] == 0) continue;
+        if (first == 0) first = set;
+        number = sps_board_add(n, m, set, table[set], a, length, e, length);
+    }
+    if (number == SPS_ACCEPTED && first != 0) number = sps_board_take(n, m, first, 1, a, length, e, length);
+    if (first != 0) {
+        printf("sessions without one exercise for a set, modulo %lu:\n", (unsigned long)m);
+        show_set(first);
+        if (number == SPS_ACCEPTED) {
+            printf(" %lu\n", (unsigned long)e[length - 1]);
+        } else {
+            printf(" refused %lu\n", (unsigned long)number);
+        }
+    }
+    free(e);
+    free(a);
+}
+
 static void show_sessions(uint32_t n, uint32_t m) {
     const uint32_t others[] = {998244353, 1000000006, 4294967295};
     printf("sessions of the whole panel:\n");
@@ -82,6 +111,7 @@ static void show_sessions(uint32_t n, uint32_t m) {
         if (others[i] != m) count_sessions(n, others[i]);
     }
     divide_sessions(n, m);
+    withdraw_exercise(n, m);
 }
 
 int main(int count, char **words) {

@@ -8,13 +8,15 @@
  * Slices.  A slice is a pointer and then a length, counted in elements (32-bit numbers or bytes).  The pointer is never
  * null, also when the length is 0, and is aligned for its element.  Inputs are only read, and two inputs may be the same
  * slice.  A result, a pad, a table to fill and a buffer overlap nothing else.  What they hold beforehand does not matter.
+ * The tables of a board are read and written, and overlap nothing else.
  *
  * Pad.  Where a call takes a pad, it needs SPS_PAD_LENGTH(n) entries.  After an accepted call these are 0, and the rest of
  * a longer pad is unchanged.
  *
- * Refusals.  A call answers with a number: 0 when it is accepted, else that of the first of these conditions that applies.
- * Functions that answer more return it packed with the number into 64 bits, as each says.  A refused call changes nothing
- * that it was lent, and every other number that it answers is 0.
+ * Refusals.  A call answers with a number: 0 when it is accepted, else that of the first of its conditions that applies, in
+ * the order in which its comment names them.  (It rises, except in reading files and in changes of boards.)  Functions that
+ * answer more return it packed with the number into 64 bits, as each says.  A refused call changes nothing that it was lent,
+ * and every other number that it answers is 0.
  */
 #ifndef SPS_H
 #define SPS_H
@@ -26,14 +28,16 @@ enum {
     SPS_ACCEPTED = 0,
     SPS_PANEL = 1,    /* n above 16 */
     SPS_MODULUS = 2,  /* m below 2; above 4294967295 no uint32_t is */
-    SPS_LENGTH = 3,   /* a table not of 2^n entries or a row not of n + 1, input or result */
+    SPS_LENGTH = 3,   /* a table not of 2^n entries or a row not of n + 1, input, result or a board's */
     SPS_PAD = 4,      /* a pad shorter than SPS_PAD_LENGTH(n) */
-    SPS_ENTRY = 5,    /* an input entry not below m */
+    SPS_ENTRY = 5,    /* an input entry, or the weight of a change, not below m */
     SPS_START = 6,    /* a first entry that the call does not take */
     SPS_HALVING = 7,  /* xor product with m even */
     SPS_GROUP = 8,    /* a number in a file ends early, is not in its shortest form, or is 2^32 or more */
     SPS_TAIL = 9,     /* bytes after the last entry of a file */
-    SPS_SHORT = 10    /* the buffer is shorter than the file */
+    SPS_SHORT = 10,   /* the buffer is shorter than the file */
+    SPS_EMPTY = 11,   /* a change at the empty set */
+    SPS_CODE = 12     /* a change at a code of 2^n or more */
 };
 
 #define SPS_MOST_CONTROLS 16
@@ -133,6 +137,31 @@ uint32_t sps_projection(uint32_t n, uint32_t m,
                         const uint32_t *b, size_t b_len,
                         uint32_t *result, size_t result_len,
                         uint32_t *pad, size_t pad_len);
+
+/* ---- Boards --------------------------------------------------------------------------------------------------------
+ * A board is two tables that the host keeps: a, the exercises there are for each set, and e, their exponential, kept up to
+ * date as exercises come and go.  After a fresh board and any changes of it under the same n and m, with nobody else writing
+ * to a or e, e is the exponential of a, and a[S] is the weight added at S less the weight taken there, over the accepted
+ * changes. */
+
+/* A fresh board: a all 0; e equal to 1 at the empty set and 0 elsewhere.  What both held does not matter.  Refusals 1, 2, 3.
+ * Time 2^n. */
+uint32_t sps_board_fresh(uint32_t n, uint32_t m,
+                         uint32_t *a, size_t a_len,
+                         uint32_t *e, size_t e_len);
+
+/* Adds the weight at the set with this code: a[set] grows by it, and for each T that contains the set e[T] grows by the
+ * weight times the old e[T without the set].  Any two tables of residues do.  Refusals 1, 2, 3, 11, 12, 5, in this order; 5
+ * for an entry of a or e and for the weight.  Time 2^n. */
+uint32_t sps_board_add(uint32_t n, uint32_t m, uint32_t set, uint32_t weight,
+                       uint32_t *a, size_t a_len,
+                       uint32_t *e, size_t e_len);
+
+/* Takes the weight out at the set: adds m - weight, so that more may be taken than was added.  Refusals and time as for
+ * adding. */
+uint32_t sps_board_take(uint32_t n, uint32_t m, uint32_t set, uint32_t weight,
+                        uint32_t *a, size_t a_len,
+                        uint32_t *e, size_t e_len);
 
 /* ---- Table files ---------------------------------------------------------------------------------------------------
  * A file is n, then m, then the 2^n entries in rising code, then nothing.  A number is written in groups of seven bits,

@@ -6,9 +6,11 @@ pub mod Rows
 pub mod Partitions
 pub mod Projection
 pub mod Refusals
+pub mod Boards
 pub mod Outcomes
 pub mod Groups
 pub mod Files
 pub mod Show
 pub mod Worked
+pub mod WorkedBoards
 pub mod Samples

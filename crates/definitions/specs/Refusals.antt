@@ -1,5 +1,6 @@
--- 01's words of refusal, the tests behind them, and the number of each call on tables and rows: 0 if it is accepted, else
--- the lowest word that applies. Also what a call leaves in the memory that it was lent.
+-- 01's words of refusal, with those of 02, the tests behind them, and the number of each call on tables and rows: 0 if it is
+-- accepted, else the lowest word that applies. (The numbers of the calls on boards are in Boards, those of files in Files.) Also
+-- what a call leaves in the memory that it was lent.
 use mathlib.Core.Path.{_≡_}
 use mathlib.Core.Bool.{Bool, true, false, not}
 use mathlib.Core.List.{List, [], _∷_, _++_}
@@ -50,6 +51,10 @@ padWord n k = wordIf (ltb k (padLength n)) 4
 abbrev pub entryWord : ℕ → List ℕ → ℕ
 entryWord m a = wordIf (not (allBelow m a)) 5
 
+-- and a weight not below m
+abbrev pub weightWord : ℕ → ℕ → ℕ
+weightWord m c = wordIf (not (ltb c m)) 5
+
 -- 6, start: the first entry is not the one that the call takes, or shares a divisor above 1 with m
 abbrev pub startWord : ℕ → List ℕ → ℕ
 startWord first a = wordIf (not (eqb (at a 0) first)) 6
@@ -60,6 +65,14 @@ sharedStartWord m a = wordIf (sharesDivisor m (at a 0)) 6
 -- 7, halving: m even
 abbrev pub halvingWord : ℕ → ℕ
 halvingWord m = wordIf (eqb (m % 2) 0) 7
+
+-- 11, empty: a change at the empty set
+abbrev pub emptyWord : ℕ → ℕ
+emptyWord S = wordIf (eqb S 0) 11
+
+-- 12, code: a code of 2 ^ n or more
+abbrev pub codeWord : ℕ → ℕ → ℕ
+codeWord n S = wordIf (not (ltb S (2 ^ n))) 12
 
 -- ---- 01's *accepted*: none of words 1, 2, 3 and 5 applies to n, m or the table, or the row
 

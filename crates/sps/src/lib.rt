@@ -7,6 +7,7 @@ ghost use Rattle.definitions.specs.Partitions.{exponentialTable, compositionTab
 ghost use Rattle.definitions.specs.Projection.{projectionRow};
 ghost use Rattle.definitions.specs.Refusals.{sumNumber, binomialNumber, productNumber, xorNumber, exponentialNumber, logarithmNumber, compositionNumber, inverseNumber, projectionNumber};
 ghost use Rattle.definitions.specs.Refusals.{after, valueAfter, padAfter};
+ghost use Rattle.definitions.specs.Boards.{board, addedAt, raisedOver, lacking, freshBoard, freshNumber, changeNumber};
 ghost use Rattle.definitions.specs.Files.{headerNumber, headerControls, headerModulus, packed, readerNumber, readerControls, readerModulus, tableRead, writerNumber, writtenCount, writtenBuffer};
 ghost use Rattle.theory.specs.Logarithm.{logarithmOf};
 ghost use Rattle.series_calls.specs.InverseTables.{inverseTable};
@@ -171,6 +172,47 @@ pub extern "C" fn sps_projection(
     ensures { λ r. ⌜ now (pad .exit) ≡ padAfter r n (now (pad .entry)) ⌝ }
 {
     projection_calls::projection(n, m, a, b, result, pad)
+}
+
+#[no_mangle]
+pub extern "C" fn sps_board_fresh(n: u32, m: u32, a: &mut [u32], e: &mut [u32]) -> u32
+    ensures { λ r. ⌜ r ≡ freshNumber n m (board (now (a .entry)) (now (e .entry))) ⌝ }
+    ensures { λ r. ⌜ now (a .exit) ≡ after r (freshBoard n .weights) (now (a .entry)) ⌝ }
+    ensures { λ r. ⌜ now (e .exit) ≡ after r (freshBoard n .exponential) (now (e .entry)) ⌝ }
+{
+    board_calls::board_fresh(n, m, a, e)
+}
+
+#[no_mangle]
+pub extern "C" fn sps_board_add(
+    n: u32,
+    m: u32,
+    set: u32,
+    weight: u32,
+    a: &mut [u32],
+    e: &mut [u32],
+) -> u32
+    ensures { λ r. ⌜ r ≡ changeNumber n m set weight (board (now (a .entry)) (now (e .entry))) ⌝ }
+    ensures { λ r. ⌜ now (a .exit) ≡ after r (addedAt n m set weight (now (a .entry))) (now (a .entry)) ⌝ }
+    ensures { λ r. ⌜ now (e .exit) ≡ after r (raisedOver n m set weight (now (e .entry))) (now (e .entry)) ⌝ }
+{
+    board_calls::board_add(n, m, set, weight, a, e)
+}
+
+#[no_mangle]
+pub extern "C" fn sps_board_take(
+    n: u32,
+    m: u32,
+    set: u32,
+    weight: u32,
+    a: &mut [u32],
+    e: &mut [u32],
+) -> u32
+    ensures { λ r. ⌜ r ≡ changeNumber n m set weight (board (now (a .entry)) (now (e .entry))) ⌝ }
+    ensures { λ r. ⌜ now (a .exit) ≡ after r (addedAt n m set (lacking m weight) (now (a .entry))) (now (a .entry)) ⌝ }
+    ensures { λ r. ⌜ now (e .exit) ≡ after r (raisedOver n m set (lacking m weight) (now (e .entry))) (now (e .entry)) ⌝ }
+{
+    board_calls::board_take(n, m, set, weight, a, e)
 }
 
 #[no_mangle]

@@ -5,7 +5,7 @@
 --   from, from-none, from-next         a row from one of its entries on
 --   comp-conv, exp-add                 composition takes binomial products, and the exponential sums, to products
 --   null, one, linear                  the rows 0, 0, ..; 1, 0, 0, ..; a, 1, 0, .. and what composition with them gives
---   tab                                the table of a function of codes; tab-ext, tab-inj, tab-add, tab-empty, tab-unit
+--   tab                                the table of a function of codes; tab-ext, tab-inj, tab-add, tab-empty, tab-zeros, tab-unit
 use mathlib.Core.Path.{_≡_, refl, sym, ap, ap₂, _∙_, fun-ext}
 use mathlib.Core.Bool.{cond}
 use Prim.Native.Nat.{ℕ, zero, suc, _+_, _*_, _^_, _<_}
@@ -181,7 +181,7 @@ unfolding empty tab
 tab-empty zero A = refl
 tab-empty (suc k) A = tab-empty k A
 
-tab-zeros : (k : ℕ) → tab k (λ c. 0) ≡ zeros k
+pub tab-zeros : (k : ℕ) → tab k (λ c. 0) ≡ zeros k
 unfolding tab zeros
 tab-zeros zero = refl
 tab-zeros (suc k) = both (tab-zeros k) (tab-zeros k)

@@ -1,5 +1,6 @@
 -- The inverse under the subset product is a composition: of the table's own sets with the row of inverses.
 --   inverseOf n m u A            the inverse of A, where u is a reciprocal of A's first entry
+--   unit-table                   modulo m, 1 at the empty set is 1
 --   inverse-is                   it is an inverse
 --   inverse-unique               there is but one
 --   inverse-coprime, inverse-exists    there is one exactly where the first entry and m have no common divisor above 1
@@ -47,7 +48,7 @@ unfoldable pub inverseOf : ℕ → ℕ → ℕ → List ℕ → List ℕ
 inverseOf n m u A = residues n m (compositionSum n (inverseRow m u) (at A))
 
 -- modulo m, 1 at the empty set is 1
-unit-table : (n m : ℕ) → 2 ≤ m → residues n m unit ≡ tabulate (2 ^ n) unit
+pub unit-table : (n m : ℕ) → 2 ≤ m → residues n m unit ≡ tabulate (2 ^ n) unit
 unfolding residues
 unit-table n m two = tabulate-ext (2 ^ n) _ _ (λ S h. small (eqb S 0)) where
   small : (b : Bool) → cond b 1 0 % m ≡ cond b 1 0

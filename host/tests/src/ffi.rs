@@ -25,6 +25,11 @@ mod raw {
             result: *mut u32, result_len: usize, pad: *mut u32, pad_len: usize) -> u32;
         pub fn sps_projection(n: u32, m: u32, a: *const u32, a_len: usize, b: *const u32, b_len: usize,
             result: *mut u32, result_len: usize, pad: *mut u32, pad_len: usize) -> u32;
+        pub fn sps_board_fresh(n: u32, m: u32, a: *mut u32, a_len: usize, e: *mut u32, e_len: usize) -> u32;
+        pub fn sps_board_add(n: u32, m: u32, set: u32, weight: u32,
+            a: *mut u32, a_len: usize, e: *mut u32, e_len: usize) -> u32;
+        pub fn sps_board_take(n: u32, m: u32, set: u32, weight: u32,
+            a: *mut u32, a_len: usize, e: *mut u32, e_len: usize) -> u32;
         pub fn sps_header_check(bytes: *const u8, len: usize) -> u64;
         pub fn sps_read_table(bytes: *const u8, len: usize, table: *mut u32, table_len: usize) -> u64;
         pub fn sps_write_table(n: u32, m: u32, table: *const u32, table_len: usize,
@@ -68,6 +73,21 @@ of_two_inputs!(projection, sps_projection -> u32, pad);
 of_one_input!(exponential, sps_exponential);
 of_one_input!(logarithm, sps_logarithm);
 of_one_input!(inverse, sps_inverse);
+
+pub fn board_fresh(n: u32, m: u32, a: &mut [u32], e: &mut [u32]) -> u32 {
+    // Sound: as above.
+    unsafe { raw::sps_board_fresh(n, m, a.as_mut_ptr(), a.len(), e.as_mut_ptr(), e.len()) }
+}
+
+pub fn board_add(n: u32, m: u32, set: u32, weight: u32, a: &mut [u32], e: &mut [u32]) -> u32 {
+    // Sound: as above.
+    unsafe { raw::sps_board_add(n, m, set, weight, a.as_mut_ptr(), a.len(), e.as_mut_ptr(), e.len()) }
+}
+
+pub fn board_take(n: u32, m: u32, set: u32, weight: u32, a: &mut [u32], e: &mut [u32]) -> u32 {
+    // Sound: as above.
+    unsafe { raw::sps_board_take(n, m, set, weight, a.as_mut_ptr(), a.len(), e.as_mut_ptr(), e.len()) }
+}
 
 pub fn header_check(bytes: &[u8]) -> u64 {
     // Sound: as above.

@@ -10,6 +10,7 @@ mod random;
 mod reference;
 
 // The tests, by subject.
+mod boards;
 mod entrywise;
 mod laws;
 mod panelshow;

@@ -1,6 +1,7 @@
 //! The calls once more, written from the specification's sentences and slowly on purpose: sums over pairs of sets, over
 //! partitions that are listed one by one, and tables solved for entry by entry.
 
+pub mod boards;
 pub mod files;
 pub mod partitions;
 pub mod products;

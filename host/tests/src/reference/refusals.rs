@@ -1,4 +1,4 @@
-//! The number that a call on tables and rows answers: the lowest of the conditions that apply.
+//! The number that a call on tables and rows answers: the lowest of the conditions that apply. (Boards have their own order.)
 
 use super::greatest_common_divisor;
 use crate::calls::{Call, Case, Shape};

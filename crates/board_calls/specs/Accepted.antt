@@ -1,0 +1,65 @@
+-- From the tests of a call on a board to its work, and from the work to what the call promises.
+--   ready, ready-for, taken-table     what an accepted change hands to its work, with its own weight or another
+--   unit-room, long-enough            a fresh board's tables have 2 ^ n entries
+--   accepted-board, refused-board     number and tables at the end of a call
+use mathlib.Core.Path.{_≡_, sym, ap, subst, _∙_}
+use mathlib.Core.List.{List}
+use Prim.Native.Nat.{ℕ, _+_, _-_, _%_, _<_}
+use native.Mathlib.Nat.{zero-add}
+use native.Mathlib.Omega.{arith}
+use lib.ListN.{length}
+use lib.Pow.{pow-pos}
+use Rattle.definitions.specs.Sums.{tabulate}
+use Rattle.definitions.specs.Refusals.{after}
+use Rattle.definitions.specs.Boards.{Board, lacking, freshNumber, changeNumber}
+use Rattle.residues.specs.Moduli.{Residue}
+use Rattle.residues.specs.declared.Modulus.{Modulus}
+use Rattle.checks.specs.Answers.{IsChecked, accepted, refused, word-kept}
+use Rattle.checks.specs.declared.Checked.{Checked}
+use Rattle.checks.specs.declared.Checked.the-variants.{Accepted, Refused}
+use Rattle.board_theory.specs.Accepted.{IsChange, IsRoom, change-accepted, fresh-accepted}
+use Rattle.board_tables.specs.Ready.{BoardReady}
+
+-- a table made with what the weight c lacks to the modulus
+pub taken-table : {m : ℕ} (c : ℕ) {d : ℕ} (f : ℕ → ℕ → List ℕ) {l : List ℕ} → Residue m (0 + (m - c)) d → l ≡ f m d → l ≡ f m (lacking m c)
+taken-table {m} c f r p = p ∙ ap (f m) (r .same ∙ ap (λ (k : ℕ). k % m) (zero-add (m - c)))
+
+-- ---- the work
+
+module _ (n : ℕ) {m : ℕ} (S c : ℕ) (b : Board) {answer : Checked} {modulus : Modulus} (h : IsChecked m (changeNumber n m S c b) answer) (e : answer ≡ Accepted modulus) where
+  pub ready : BoardReady n modulus S c b
+  ready =
+      let s = h .stands modulus e in
+      let change : IsChange n m S c b = change-accepted n m S c b (accepted h e) in
+      record { valid = s .valid; change = subst (λ (k : ℕ). IsChange n k S c b) (sym (s .value-is)) change }
+
+  pub ready-for : {d : ℕ} → d < modulus .value → BoardReady n modulus S d b
+  ready-for k = let i = ready .change in record {
+    valid = ready .valid;
+    change = record { board = i .board; some = i .some; code = i .code; weight = k };
+  }
+
+module _ (n : ℕ) {m : ℕ} (b : Board) {answer : Checked} {modulus : Modulus} (h : IsChecked m (freshNumber n m b) answer) (e : answer ≡ Accepted modulus) where
+  pub room : IsRoom n m b
+  room = fresh-accepted n m b (accepted h e)
+
+  pub unit-room : 0 < length (b .exponential)
+  unit-room = omega (arith, room .exponential, pow-pos n)
+
+pub long-enough : (f : ℕ → ℕ) {long N : ℕ} {l : List ℕ} → l ≡ tabulate long f → long ≡ N → l ≡ tabulate N f
+long-enough f p e = p ∙ ap (λ (k : ℕ). tabulate k f) e
+
+-- ---- the answer
+
+module _ {m k : ℕ} {answer : Checked} (h : IsChecked m k answer) where
+  -- the work made the board under the modulus' value
+  pub accepted-board : {modulus : Modulus} → answer ≡ Accepted modulus → (new : ℕ → Board) {A E : List ℕ}
+      → A ≡ new (modulus .value) .weights → E ≡ new (modulus .value) .exponential → (0 ≡ k) × ((A ≡ new m .weights) × (E ≡ new m .exponential))
+  accepted-board {modulus} e new p q =
+      let s = h .stands modulus e .value-is in
+      (sym (accepted h e), (p ∙ ap (λ (j : ℕ). new j .weights) s, q ∙ ap (λ (j : ℕ). new j .exponential) s))
+
+  pub refused-board : {w : ℕ} → answer ≡ Refused w → (new old : Board)
+      → (w ≡ k) × ((old .weights ≡ after w (new .weights) (old .weights)) × (old .exponential ≡ after w (new .exponential) (old .exponential)))
+  refused-board e new old =
+      (refused h e, (word-kept h e (new .weights) (old .weights), word-kept h e (new .exponential) (old .exponential)))

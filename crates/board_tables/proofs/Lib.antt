@@ -1,0 +1,3 @@
+mod Supersets
+mod Raising
+mod Fresh

@@ -1,0 +1,5 @@
+pub mod Single
+pub mod Raised
+pub mod Accepted
+pub mod Runs
+pub mod Orders
