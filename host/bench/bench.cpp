@@ -1,4 +1,5 @@
-// Measures each call of the library (of the two changes of a board, adding) next to a plain implementation, in interleaved rounds of one run, and prints ratios.
+// Measures each call of the library (of the two changes of a board, adding) next to a plain implementation, in interleaved
+// rounds of one run, and prints ratios.
 // Times are processor time; every buffer was written before it is measured.
 #include <algorithm>
 #include <cstdio>

@@ -1,7 +1,7 @@
 -- The order of changes, and changes that undo each other, on any two accepted tables.
 --   taking-undoes, adding-undoes     what was added is taken out again, and the other way round: the board is as it was
 --   order-of-changes                 the same changes in another order give the same board
-use mathlib.Core.Path.{_≡_, refl, sym, ap, ap₂, subst, _∙_}
+use mathlib.Core.Path.{_≡_, refl, sym, ap, ap₂, _∙_}
 use mathlib.Core.List.{List, [], _∷_, List·Permᴰ, List·Permᴰ·nil, List·Permᴰ·cons, List·Permᴰ·swap, List·Permᴰ·trans}
 use Prim.Native.Nat.{ℕ, zero, suc, _+_, _%_, _^_, _<_}
 use native.Mathlib.Nat.{zero-mod, zero-add, add-comm}
