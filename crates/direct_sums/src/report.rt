@@ -19,9 +19,11 @@ fn entries(line: &[u8], a: &[u32], b: &[u32], result: &[u32]) {
     text(b" differ");
 }
 
-// The smaller of n and a + b.
+// The smaller of n and a + b, unless a or b is the ceiling of a table of zeros.
 fn bound(n: u32, a: u32, b: u32) -> u32 {
-    if n <= a {
+    if a == plain_sums::NO_SESSION || b == plain_sums::NO_SESSION {
+        plain_sums::NO_SESSION
+    } else if n <= a {
         n
     } else if n - a <= b {
         n
