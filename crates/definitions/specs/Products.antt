@@ -38,7 +38,7 @@ unionTable n m A B = residues n m (pairSum bitOr n (at A) (at B))
 abbrev pub xorTable : ℕ → ℕ → List ℕ → List ℕ → List ℕ
 xorTable n m A B = residues n m (pairSum bitXor n (at A) (at B))
 
--- whether some entry of the table is not 0; if none is, it is a table of zeros
+-- whether some entry of the table is not 0; a table without such an entry is a table of zeros
 unfoldable pub nonzero : ℕ → List ℕ → Bool
 nonzero n A = some (2 ^ n) (λ S. not (eqb (at A S) 0))
 
@@ -46,10 +46,12 @@ nonzero n A = some (2 ^ n) (λ S. not (eqb (at A S) 0))
 abbrev pub noSession : ℕ
 noSession = 255
 
--- 01's ceiling with 02's (the degree of the table): the largest size of a set with a nonzero entry, and 255 if every entry is 0
+-- 01's ceiling, as 02 changes it (the degree of the table): the largest size of a set with a nonzero entry, and 255 if it is a
+-- table of zeros
 unfoldable pub degree : ℕ → List ℕ → ℕ
 degree n A = cond (nonzero n A) (largest (2 ^ n) (λ S. cond (eqb (at A S) 0) 0 (size S))) noSession
 
--- 01's returned ceiling of a subset product with 02's: the smaller of n and the sum, and 255 if an input is a table of zeros
+-- 01's returned ceiling of a subset product, as 02 changes it: the smaller of n and the sum of the two ceilings, and 255 if an
+-- input is a table of zeros
 unfoldable pub degreeBound : ℕ → List ℕ → List ℕ → ℕ
 degreeBound n A B = cond (nonzero n A && nonzero n B) (min n (degree n A + degree n B)) noSession

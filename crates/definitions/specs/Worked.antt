@@ -121,10 +121,11 @@ ceilings =
     ∷ ceiling 0 (3 ∷ []) (4 ∷ []) 0
     ∷ ceiling 2 P (1 ∷ 0 ∷ 0 ∷ 0 ∷ []) 2
     ∷ ceiling 2 P P 2
+    ∷ ceiling 3 (0 ∷ 4 ∷ 0 ∷ 0 ∷ 0 ∷ 0 ∷ 0 ∷ 0 ∷ []) (0 ∷ 0 ∷ 5 ∷ 0 ∷ 0 ∷ 0 ∷ 0 ∷ 0 ∷ []) 2
     ∷ subset 0 6 (2 ∷ []) (3 ∷ []) (0 ∷ [])
     ∷ ceiling 0 (2 ∷ []) (3 ∷ []) 0
     ∷ []
 
 pub worked-ceilings : AllHold ceilings
 unfolding residues tabulate subsetSum sum inside nonzero some degree degreeBound largest ones
-worked-ceilings = (refl, (refl, (refl, (refl, (refl, (refl, (refl, (refl, (refl, (refl, (refl, (refl, (refl, (refl, (refl, (refl, tt))))))))))))))))
+worked-ceilings = (refl, (refl, (refl, (refl, (refl, (refl, (refl, (refl, (refl, (refl, (refl, (refl, (refl, (refl, (refl, (refl, (refl, tt)))))))))))))))))

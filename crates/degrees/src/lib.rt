@@ -85,10 +85,11 @@ pub fn degree_bound(n: u32, a: &[u32], b: &[u32]) -> u32
 {
     let left = degree(n, a);
     let right = degree(n, b);
+    let both = left + right;
     if either_zeros(left, right) {
         NO_SESSION
-    } else if left + right < n {
-        left + right
+    } else if both < n {
+        both
     } else {
         n
     }

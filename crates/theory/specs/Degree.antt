@@ -1,6 +1,7 @@
 -- The degree of a table: the largest size of a set with a nonzero entry, and 255 if every entry is 0.
 --   nonzero-at, zeros-at, zeros-are     a nonzero table and a table of zeros, entry by entry
---   degree-zeros, degree-tells          255 stands for a table of zeros, and, of a panel that is not refused, for no other
+--   degree-zeros, degree-nonzero        255, or the largest size; degree-tells: so, of a panel that is not refused, 255 tells
+--                                       a table of zeros from all others
 --   degree-at, degree-least             of a nonzero table it is the least bound on those sizes; degree-most: at most n
 --   product-zeros                       a subset product with a table of zeros is one
 --   degree-product                      the degree of a nonzero subset product is at most the bound that the call returns
@@ -104,12 +105,12 @@ module _ (n m : ℕ) (A B : List ℕ) where
   degree-product some = bounded (nonzero n A && nonzero n B) refl where
     bounded : (b : Bool) → (nonzero n A && nonzero n B) ≡ b
         → degree n (subsetTable n m A B) ≤ cond b (min n (degree n A + degree n B)) noSession
-    bounded false e = absurd (true≢false (sym some ∙ product-zeros e))
     bounded true e = degree-least n (subsetTable n m A B) (min n (degree n A + degree n B)) some (λ S h d.
         ⊎-elim
         (λ (k : degree n A + degree n B < size S). absurd (d (large-zero S h k)))
         (λ (k : size S ≤ degree n A + degree n B). omega (arith, size-le n S h))
         (below-or (degree n A + degree n B) (size S)))
+    bounded false e = absurd (true≢false (sym some ∙ product-zeros e))
 
   -- of a panel that is not refused, the call returns 255 only if its result is a table of zeros
   pub none-returned : n < noSession → degreeBound n A B ≡ noSession → nonzero n (subsetTable n m A B) ≡ false

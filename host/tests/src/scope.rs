@@ -1,5 +1,5 @@
 //! The specification's own examples: the twelve entries worked by hand, where composers slip, and the edges; and projections
-//! worked by hand.
+//! and ceilings worked by hand.
 
 use crate::calls::{Call, Case};
 use crate::ffi;
@@ -82,8 +82,8 @@ fn slips_of_the_subset_product() {
     assert_eq!(gives(Call::SubsetProduct, 101, &[&P, &P], &[1, 4, 6, 20]), 2);
 }
 
-/// One table of zeros is enough for 255. The empty session alone is none, and where two other tables give zeros the sum rule
-/// stays.
+/// One table of zeros is enough for 255. A table with the empty set's entry alone is none; for two tables that are none the sum
+/// rule stays, also where their product is one.
 #[test]
 fn no_session_at_all() {
     let ceiling = |m, a: &[u32], b: &[u32], expected: &[u32]| gives(Call::SubsetProduct, m, &[a, b], expected);
@@ -94,6 +94,7 @@ fn no_session_at_all() {
     assert_eq!(ceiling(5, &[0], &[4], &[0]), 255);
     assert_eq!(ceiling(5, &[0], &[0], &[0]), 255);
     assert_eq!(ceiling(101, &[1, 0, 0, 0], &[1, 0, 0, 0], &[1, 0, 0, 0]), 0);
+    assert_eq!(ceiling(101, &[0, 4, 0, 0, 0, 0, 0, 0], &[0, 0, 5, 0, 0, 0, 0, 0], &[0, 0, 0, 20, 0, 0, 0, 0]), 2);
     assert_eq!(ceiling(6, &[2], &[3], &[0]), 0);
     assert_eq!(ceiling(6, &[0, 2], &[3, 0], &[0, 0]), 1);
 }

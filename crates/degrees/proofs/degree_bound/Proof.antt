@@ -14,17 +14,13 @@ degree-requires c κs = search needs
 degree-requires-2 : tie.Need-degree-requires-2
 degree-requires-2 c κs = search needs
 
+add-both : tie.Need-add-both
+add-both c =
+    let few = c .before .before .before .before .pre .0 in
+    omega (arith, degree-fits few _ (c .before .degree .ensures), degree-fits few _ (c .degree2 .ensures))
+
 either-zeros-requires : tie.Need-either-zeros-requires
 either-zeros-requires c κs = search needs
-
-add-if2 : tie.Need-add-if2
-add-if2 c =
-    let found = c .before .before in
-    let few = found .before .before .before .before .pre .0 in
-    omega (arith, degree-fits few _ (found .before .degree .ensures), degree-fits few _ (found .degree2 .ensures))
-
-add-result : tie.Need-add-result
-add-result c = search needs
 
 returns : tie.Need-returns
 returns c =
@@ -49,12 +45,4 @@ returns-3 c = omega (arith, sum-rule (c .before), c .if2 .left)
 pub degree-bound-spec : {M : Type 1} → statement M
 degree-bound-spec =
     tie.close
-    (tie.spec
-    degree-requires
-    degree-requires-2
-    either-zeros-requires
-    add-if2
-    add-result
-    returns
-    returns-2
-    returns-3)
+    (tie.spec degree-requires degree-requires-2 add-both either-zeros-requires returns returns-2 returns-3)
