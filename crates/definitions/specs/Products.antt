@@ -42,16 +42,16 @@ xorTable n m A B = residues n m (pairSum bitXor n (at A) (at B))
 unfoldable pub nonzero : ℕ → List ℕ → Bool
 nonzero n A = some (2 ^ n) (λ S. not (eqb (at A S) 0))
 
--- 02's ceiling of a table of zeros, which has no session at all
-abbrev pub noSession : ℕ
-noSession = 255
+-- 02's ceiling of a table of zeros
+abbrev pub degreeOfZeros : ℕ
+degreeOfZeros = 255
 
--- 01's ceiling, as 02 changes it (the degree of the table): the largest size of a set with a nonzero entry, and 255 if it is a
--- table of zeros
+-- 01's ceiling, as 02 changes it (the degree of the table): the largest size of a set with a nonzero entry, and 255 for a table
+-- of zeros
 unfoldable pub degree : ℕ → List ℕ → ℕ
-degree n A = cond (nonzero n A) (largest (2 ^ n) (λ S. cond (eqb (at A S) 0) 0 (size S))) noSession
+degree n A = cond (nonzero n A) (largest (2 ^ n) (λ S. cond (eqb (at A S) 0) 0 (size S))) degreeOfZeros
 
--- 01's returned ceiling of a subset product, as 02 changes it: the smaller of n and the sum of the two ceilings, and 255 if an
+-- 01's returned ceiling of a subset product, as 02 changes it: the smaller of n and the sum of the two ceilings, or 255 if an
 -- input is a table of zeros
 unfoldable pub degreeBound : ℕ → List ℕ → List ℕ → ℕ
-degreeBound n A B = cond (nonzero n A && nonzero n B) (min n (degree n A + degree n B)) noSession
+degreeBound n A B = cond (nonzero n A && nonzero n B) (min n (degree n A + degree n B)) degreeOfZeros

@@ -103,8 +103,8 @@ pub worked-projections : AllHold projections
 unfolding residues tabulate subsetSum sum inside compositionSum listSum partitions subsets keep blockProduct flatMap oneRow wholeEntry projectionEntry projectionRow
 worked-projections = (refl, (refl, (refl, (refl, (refl, tt)))))
 
--- No session at all is told from the empty session alone, and one table of zeros is enough for 255. For two other tables the sum
--- rule stays, also where they give a table of zeros, as in 01's last case: there the number is no bound.
+-- A table of zeros is told from one whose only nonzero entry is the empty set's, and one such input is enough for 255. Else the sum
+-- rule stays, also where the product is a table of zeros, as in 01's last case: there the number is no bound.
 abbrev pub ceilings : List Case
 ceilings =
     ceilingOf 2 (0 ∷ 0 ∷ 0 ∷ 0 ∷ []) 255

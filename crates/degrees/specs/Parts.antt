@@ -1,5 +1,5 @@
 -- The degree of a part of a table: 2 ^ q entries, whose codes share d controls above the low q.
---   part-whole                 of a nonzero table; part-none, part-some: whether a table is one
+--   part-whole                 of a whole table that is nonzero; part-none, part-some: whether a table is nonzero
 --   part-single                of one entry
 --   part-most                  at most d + q
 --   part-halves                of the halves, where the upper one has one control more

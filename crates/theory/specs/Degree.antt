@@ -5,7 +5,7 @@
 --   degree-at, degree-least             of a nonzero table it is the least bound on those sizes; degree-most: at most n
 --   product-zeros                       a subset product with a table of zeros is one
 --   degree-product                      the degree of a nonzero subset product is at most the bound that the call returns
---   none-returned                       where that is 255, the subset product is a table of zeros
+--   zeros-returned                      where that is 255, the subset product is a table of zeros (of a panel that is not refused)
 use mathlib.Core.Path.{_≡_, refl, sym, ap, _∙_}
 use mathlib.Core.Bool.{Bool, true, false, true≢false, cond, not, _&&_}
 use mathlib.Core.List.{List}
@@ -19,7 +19,7 @@ use lib.Dec.{eqb}
 use borrow.Author.Tests.{eqb-true, not-false, eq-eqb, ne-eqb}
 use Rattle.definitions.specs.Sums.{at, largest}
 use Rattle.definitions.specs.Sets.{size, inside}
-use Rattle.definitions.specs.Products.{subsetSum, subsetTable, nonzero, noSession, degree, degreeBound}
+use Rattle.definitions.specs.Products.{subsetSum, subsetTable, nonzero, degreeOfZeros, degree, degreeBound}
 use Rattle.theory.specs.Tests.{guard-ext, guard-zero, below-or}
 use Rattle.theory.specs.Sums.{sum-zero, some-found, some-none, none-some, le-largest, largest-le}
 use Rattle.theory.specs.Lists.{at-residues}
@@ -41,7 +41,7 @@ zeros-are n A z = none-some (2 ^ n) _ (λ S h. ap not (eq-eqb (at A S) 0 (z S h)
 
 -- ---- the degree
 
-pub degree-zeros : (n : ℕ) (A : List ℕ) → nonzero n A ≡ false → degree n A ≡ noSession
+pub degree-zeros : (n : ℕ) (A : List ℕ) → nonzero n A ≡ false → degree n A ≡ degreeOfZeros
 unfolding degree
 degree-zeros n A e = rw e
 
@@ -66,16 +66,16 @@ pub degree-most : (n : ℕ) (A : List ℕ) → nonzero n A ≡ true → degree n
 degree-most n A some = degree-least n A n some (λ S h d. size-le n S h)
 
 -- so of a panel with fewer controls than 255 it tells a table of zeros from all others
-pub degree-tells : (n : ℕ) (A : List ℕ) → n < noSession → nonzero n A ≡ not (eqb (degree n A) noSession)
+pub degree-tells : (n : ℕ) (A : List ℕ) → n < degreeOfZeros → nonzero n A ≡ not (eqb (degree n A) degreeOfZeros)
 degree-tells n A few = tells (nonzero n A) refl where
-  tells : (b : Bool) → nonzero n A ≡ b → b ≡ not (eqb (degree n A) noSession)
-  tells true e = rw (ne-eqb (degree n A) noSession (λ d. omega (arith, degree-most n A e)))
-  tells false e = rw (eq-eqb (degree n A) noSession (degree-zeros n A e))
+  tells : (b : Bool) → nonzero n A ≡ b → b ≡ not (eqb (degree n A) degreeOfZeros)
+  tells true e = rw (ne-eqb (degree n A) degreeOfZeros (λ d. omega (arith, degree-most n A e)))
+  tells false e = rw (eq-eqb (degree n A) degreeOfZeros (degree-zeros n A e))
 
 -- ---- the subset product
 
 module _ (n m : ℕ) (A B : List ℕ) where
-  -- an entry of the product where no set inside S has nonzero entries on both sides
+  -- an entry of the product is 0 if no L inside S has both A[L] and B[S without L] nonzero
   entry-zero : (S : ℕ) → S < 2 ^ n → ((L : ℕ) → bitAnd L S ≡ L → L ≤ S → at A L ≢ 0 → at B (S - L) ≢ 0 → ⊥) → at (subsetTable n m A B) S ≡ 0
   unfolding subsetSum
   entry-zero S h none =
@@ -104,7 +104,7 @@ module _ (n m : ℕ) (A B : List ℕ) where
   unfolding degreeBound
   degree-product some = bounded (nonzero n A && nonzero n B) refl where
     bounded : (b : Bool) → (nonzero n A && nonzero n B) ≡ b
-        → degree n (subsetTable n m A B) ≤ cond b (min n (degree n A + degree n B)) noSession
+        → degree n (subsetTable n m A B) ≤ cond b (min n (degree n A + degree n B)) degreeOfZeros
     bounded true e = degree-least n (subsetTable n m A B) (min n (degree n A + degree n B)) some (λ S h d.
         ⊎-elim
         (λ (k : degree n A + degree n B < size S). absurd (d (large-zero S h k)))
@@ -113,9 +113,9 @@ module _ (n m : ℕ) (A B : List ℕ) where
     bounded false e = absurd (true≢false (sym some ∙ product-zeros e))
 
   -- of a panel that is not refused, the call returns 255 only if its result is a table of zeros
-  pub none-returned : n < noSession → degreeBound n A B ≡ noSession → nonzero n (subsetTable n m A B) ≡ false
+  pub zeros-returned : n < degreeOfZeros → degreeBound n A B ≡ degreeOfZeros → nonzero n (subsetTable n m A B) ≡ false
   unfolding degreeBound
-  none-returned few e = product-zeros (which (nonzero n A && nonzero n B) refl) where
+  zeros-returned few e = product-zeros (which (nonzero n A && nonzero n B) refl) where
     which : (b : Bool) → (nonzero n A && nonzero n B) ≡ b → b ≡ false
     which false f = refl
     which true f = absurd (omega (arith, rw f at e))

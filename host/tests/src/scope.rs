@@ -82,8 +82,8 @@ fn slips_of_the_subset_product() {
     assert_eq!(gives(Call::SubsetProduct, 101, &[&P, &P], &[1, 4, 6, 20]), 2);
 }
 
-/// One table of zeros is enough for 255. A table with the empty set's entry alone is none; for two tables that are none the sum
-/// rule stays, also where their product is one.
+/// One table of zeros is enough for 255. A table with only the empty set's entry is not one. If neither input is, the sum rule
+/// stays, also where the product is a table of zeros.
 #[test]
 fn no_session_at_all() {
     let ceiling = |m, a: &[u32], b: &[u32], expected: &[u32]| gives(Call::SubsetProduct, m, &[a, b], expected);
@@ -99,7 +99,7 @@ fn no_session_at_all() {
     assert_eq!(ceiling(6, &[0, 2], &[3, 0], &[0, 0]), 1);
 }
 
-/// Also of tables of zeros a refusal has ceiling 0.
+/// A refusal has ceiling 0, also where the inputs are tables of zeros.
 #[test]
 fn no_session_refused() {
     let answer = |m, pad: usize| ffi::subset_product(2, m, &[0; 4], &[0; 4], &mut [9; 4], &mut vec![9; pad]);

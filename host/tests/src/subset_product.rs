@@ -62,8 +62,8 @@ fn single_sets() {
     }
 }
 
-/// Of every panel: tables of zeros next to the empty set's entry alone, the whole panel's, and all entries. One entry that is
-/// not 0 is enough for a table to be none of zeros, also that of a single control.
+/// Of every panel: tables of zeros next to the empty set's entry alone, the whole panel's, and all entries. A table with one
+/// nonzero entry is not a table of zeros, also if that is the entry of a single control.
 #[test]
 fn ceilings() {
     for n in 0..=16 {
