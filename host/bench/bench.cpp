@@ -109,8 +109,7 @@ std::vector<Bench> benches() {
     auto plain_subset = PLAIN_PRODUCT(subset_product);
     add("subset product", "scalar", subset_number, plain_subset);
     add("subset product", "scalar + duties", subset, [plain_subset](Data &d) {
-        u64 ceiling = plain::ceiling(d.n, d.a.data()) + plain::ceiling(d.n, d.b.data());
-        return std::min<u64>(d.n, ceiling) << 32 | with_duties(plain_subset)(d);
+        return u64{plain::returned_ceiling(d.n, d.a.data(), d.b.data())} << 32 | with_duties(plain_subset)(d);
     });
     add("subset product", "textbook", subset_number, PLAIN_PRODUCT(textbook_subset_product));
 

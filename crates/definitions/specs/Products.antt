@@ -1,11 +1,11 @@
 -- Sum, difference and the three products of tables of n controls. Each is a sum of natural numbers whose remainder by m is
 -- taken once, at the end.
-use mathlib.Core.Bool.{cond}
+use mathlib.Core.Bool.{Bool, cond, not, _&&_}
 use mathlib.Core.List.{List}
 use Prim.Native.Nat.{ℕ, _+_, _*_, _-_, _%_, _^_, min}
 use lib.Bits.{bitOr, bitXor}
 use lib.Dec.{eqb}
-use Rattle.definitions.specs.Sums.{sum, largest, tabulate, at}
+use Rattle.definitions.specs.Sums.{sum, some, largest, tabulate, at}
 use Rattle.definitions.specs.Sets.{size, inside, without}
 
 -- a table of n controls whose entry at S is the remainder of f S by m
@@ -38,10 +38,20 @@ unionTable n m A B = residues n m (pairSum bitOr n (at A) (at B))
 abbrev pub xorTable : ℕ → ℕ → List ℕ → List ℕ → List ℕ
 xorTable n m A B = residues n m (pairSum bitXor n (at A) (at B))
 
--- 01's ceiling: the largest size of a set with a nonzero entry, and 0 if every entry is 0 (the degree of the table)
-unfoldable pub degree : ℕ → List ℕ → ℕ
-degree n A = largest (2 ^ n) (λ S. cond (eqb (at A S) 0) 0 (size S))
+-- whether some entry of the table is not 0; a table without such an entry is a table of zeros
+unfoldable pub nonzero : ℕ → List ℕ → Bool
+nonzero n A = some (2 ^ n) (λ S. not (eqb (at A S) 0))
 
--- 01's returned ceiling of a subset product
+-- 02's ceiling of a table of zeros
+abbrev pub degreeOfZeros : ℕ
+degreeOfZeros = 255
+
+-- 01's ceiling, as 02 changes it (the degree of the table): the largest size of a set with a nonzero entry, and 255 for a table
+-- of zeros
+unfoldable pub degree : ℕ → List ℕ → ℕ
+degree n A = cond (nonzero n A) (largest (2 ^ n) (λ S. cond (eqb (at A S) 0) 0 (size S))) degreeOfZeros
+
+-- 01's returned ceiling of a subset product, as 02 changes it: the smaller of n and the sum of the two ceilings, or 255 if an
+-- input is a table of zeros
 unfoldable pub degreeBound : ℕ → List ℕ → List ℕ → ℕ
-degreeBound n A B = min n (degree n A + degree n B)
+degreeBound n A B = cond (nonzero n A && nonzero n B) (min n (degree n A + degree n B)) degreeOfZeros

@@ -1,11 +1,11 @@
--- 01's entries worked by hand, as one theorem of the definitions; and projections worked by hand.
+-- 01's entries worked by hand, as one theorem of the definitions; and projections and ceilings worked by hand.
 use mathlib.Core.Path.{_≡_, refl}
 use mathlib.Core.List.{List, [], _∷_, flatMap}
 use Prim.Native.Nat.{ℕ}
 use lib.Count.{ones}
-use Rattle.definitions.specs.Sums.{sum, listSum, count, largest, tabulate, keep}
+use Rattle.definitions.specs.Sums.{sum, listSum, count, some, largest, tabulate, keep}
 use Rattle.definitions.specs.Sets.{inside, subsets}
-use Rattle.definitions.specs.Products.{residues, subsetSum, pairSum, subsetTable, unionTable, xorTable, degree, degreeBound}
+use Rattle.definitions.specs.Products.{residues, subsetSum, pairSum, subsetTable, unionTable, xorTable, nonzero, degree, degreeBound}
 use Rattle.definitions.specs.Rows.{choose, binomialSum, binomialRow}
 use Rattle.definitions.specs.Partitions.{partitions, blockProduct, compositionSum, compositionTable, exponentialTable, allBelow, IsLogarithm, IsInverse}
 use Rattle.definitions.specs.Projection.{oneRow, wholeEntry, projectionEntry, projectionRow}
@@ -17,6 +17,7 @@ pub data Case : Type 0 where
   composition : (n m : ℕ) (A f H : List ℕ) → Case
   binomial : (n m : ℕ) (f g h : List ℕ) → Case
   ceiling : (n : ℕ) (A B : List ℕ) (c : ℕ) → Case
+  ceilingOf : (n : ℕ) (A : List ℕ) (c : ℕ) → Case
   projection : (n m : ℕ) (A B h : List ℕ) → Case
 
 -- what the definitions say of it
@@ -30,6 +31,7 @@ Holds (logarithm n m E H) = IsLogarithm n m E H
 Holds (composition n m A f H) = compositionTable n m f A ≡ H
 Holds (binomial n m f g h) = binomialRow n m f g ≡ h
 Holds (ceiling n A B c) = degreeBound n A B ≡ c
+Holds (ceilingOf n A c) = degree n A ≡ c
 Holds (projection n m A B h) = projectionRow n m A B ≡ h
 
 -- every case of a list holds
@@ -65,7 +67,7 @@ cases =
     ∷ []
 
 pub worked : AllHold cases
-unfolding residues tabulate subsetSum pairSum sum inside binomialRow binomialSum choose count compositionSum listSum partitions subsets keep blockProduct allBelow degree degreeBound largest flatMap ones
+unfolding residues tabulate subsetSum pairSum sum inside binomialRow binomialSum choose count compositionSum listSum partitions subsets keep blockProduct allBelow nonzero some degree degreeBound largest flatMap ones
 worked = (
   refl,
   (
@@ -100,3 +102,30 @@ projections =
 pub worked-projections : AllHold projections
 unfolding residues tabulate subsetSum sum inside compositionSum listSum partitions subsets keep blockProduct flatMap oneRow wholeEntry projectionEntry projectionRow
 worked-projections = (refl, (refl, (refl, (refl, (refl, tt)))))
+
+-- A table of zeros is told from one whose only nonzero entry is the empty set's, and one such input is enough for 255. Else the sum
+-- rule stays, also where the product is a table of zeros, as in 01's last case: there the number is no bound.
+abbrev pub ceilings : List Case
+ceilings =
+    ceilingOf 2 (0 ∷ 0 ∷ 0 ∷ 0 ∷ []) 255
+    ∷ ceilingOf 0 (0 ∷ []) 255
+    ∷ ceilingOf 2 (1 ∷ 0 ∷ 0 ∷ 0 ∷ []) 0
+    ∷ ceilingOf 0 (3 ∷ []) 0
+    ∷ ceilingOf 2 (0 ∷ 0 ∷ 3 ∷ 0 ∷ []) 1
+    ∷ ceilingOf 2 P 2
+    ∷ ceiling 2 (0 ∷ 0 ∷ 0 ∷ 0 ∷ []) (0 ∷ 0 ∷ 0 ∷ 0 ∷ []) 255
+    ∷ ceiling 2 (0 ∷ 0 ∷ 0 ∷ 0 ∷ []) P 255
+    ∷ ceiling 2 P (0 ∷ 0 ∷ 0 ∷ 0 ∷ []) 255
+    ∷ ceiling 0 (0 ∷ []) (4 ∷ []) 255
+    ∷ ceiling 2 (1 ∷ 0 ∷ 0 ∷ 0 ∷ []) (1 ∷ 0 ∷ 0 ∷ 0 ∷ []) 0
+    ∷ ceiling 0 (3 ∷ []) (4 ∷ []) 0
+    ∷ ceiling 2 P (1 ∷ 0 ∷ 0 ∷ 0 ∷ []) 2
+    ∷ ceiling 2 P P 2
+    ∷ ceiling 3 (0 ∷ 4 ∷ 0 ∷ 0 ∷ 0 ∷ 0 ∷ 0 ∷ 0 ∷ []) (0 ∷ 0 ∷ 5 ∷ 0 ∷ 0 ∷ 0 ∷ 0 ∷ 0 ∷ []) 2
+    ∷ subset 0 6 (2 ∷ []) (3 ∷ []) (0 ∷ [])
+    ∷ ceiling 0 (2 ∷ []) (3 ∷ []) 0
+    ∷ []
+
+pub worked-ceilings : AllHold ceilings
+unfolding residues tabulate subsetSum sum inside nonzero some degree degreeBound largest ones
+worked-ceilings = (refl, (refl, (refl, (refl, (refl, (refl, (refl, (refl, (refl, (refl, (refl, (refl, (refl, (refl, (refl, (refl, (refl, tt)))))))))))))))))

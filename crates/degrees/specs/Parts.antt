@@ -1,11 +1,13 @@
 -- The degree of a part of a table: 2 ^ q entries, whose codes share d controls above the low q.
---   part-whole, part-single    of a whole table, and of one entry
+--   part-whole                 of a whole table that is nonzero; part-none, part-some: whether a table is nonzero
+--   part-single                of one entry
 --   part-most                  at most d + q
 --   part-halves                of the halves, where the upper one has one control more
 --   part-eight                 of eight entries, those of sets of one size joined
-use mathlib.Core.Path.{_≡_, sym, ap, ap₂, _∙_}
+use mathlib.Core.Path.{_≡_, refl, sym, ap, ap₂, _∙_}
 use mathlib.Core.Bool.{Bool, true, false, cond}
 use mathlib.Core.List.{List}
+use mathlib.Core.Logic.{_≢_}
 use Prim.Native.Nat.{ℕ, zero, suc, _+_, _^_, _≤_, max}
 use native.Mathlib.Nat.{add-zero, zero-add, zero-max, max-zero}
 use native.Mathlib.Omega.{arith}
@@ -14,12 +16,14 @@ use lib.Count.{ones}
 use lib.Dec.{eqb}
 use lib.ListN.{take, drop}
 use lib.Seq.{getD-take, getD-drop}
+use native.Mathlib.Decide.{ℕ-discrete}
 use borrow.Author.Tests.{ne-eqb}
 use Rattle.definitions.specs.Sums.{at, largest}
 use Rattle.definitions.specs.Sets.{size}
-use Rattle.definitions.specs.Products.{degree}
+use Rattle.definitions.specs.Products.{nonzero, degree}
 use Rattle.theory.specs.Sums.{largest-ext, largest-split, largest-le}
-use Rattle.theory.specs.Codes.{size-top, size-le, size-zero}
+use Rattle.theory.specs.Codes.{size-top, size-le, size-zero, size-none}
+use Rattle.theory.specs.Degree.{nonzero-at, zeros-at, zeros-are, degree-nonzero, degree-at}
 
 -- what a set of that size counts for if its entry is x
 abbrev pub counted : ℕ → ℕ → ℕ
@@ -36,9 +40,25 @@ counted-le x s = most (eqb x 0) where
   most true = omega arith
   most false = omega arith
 
-pub part-whole : (n : ℕ) (A : List ℕ) → partDegree n 0 A ≡ degree n A
-unfolding partDegree degree
-part-whole n A = largest-ext (2 ^ n) _ _ (λ S h. ap (counted (at A S)) (zero-add (size S)))
+pub part-whole : (n : ℕ) (A : List ℕ) → nonzero n A ≡ true → partDegree n 0 A ≡ degree n A
+unfolding partDegree
+part-whole n A some = largest-ext (2 ^ n) _ _ (λ S h. ap (counted (at A S)) (zero-add (size S))) ∙ sym (degree-nonzero n A some)
+
+-- A table of zeros has 0 here, and so has a table with the empty set's entry alone: that entry tells them apart.
+pub part-none : (n : ℕ) (A : List ℕ) → partDegree n 0 A ≡ 0 → at A 0 ≡ 0 → nonzero n A ≡ false
+part-none n A e first = zeros-are n A (λ S h. elim (ℕ-discrete (at A S) 0) [
+  | yes z ↦ z
+  | no d ↦
+      let empty : size S ≡ 0 = omega (arith, part-whole n A (nonzero-at n A S h d), degree-at n A S h d) in
+      ap (at A) (size-none S empty) ∙ first
+])
+
+pub part-some : (n : ℕ) (A : List ℕ) → partDegree n 0 A ≢ 0 → nonzero n A ≡ true
+unfolding partDegree
+part-some n A d = found (nonzero n A) refl where
+  found : (b : Bool) → nonzero n A ≡ b → b ≡ true
+  found true e = refl
+  found false e = absurd (d (omega (arith, largest-le (2 ^ n) (λ S. counted (at A S) (0 + size S)) 0 (λ S h. rw (zeros-at n A e S h) (omega arith)))))
 
 pub part-single : (d : ℕ) (A : List ℕ) → partDegree 0 d A ≡ counted (at A 0) d
 unfolding partDegree largest

@@ -1,12 +1,17 @@
 // The degree of a table (01: its ceiling), and the bound on the degree of a product (01: returned ceiling).
 ghost use mathlib.Core.Path.{_≡_};
+ghost use mathlib.Core.Bool.{_||_};
 ghost use Prim.Native.Nat.{_+_, _^_, _≤_, max};
+ghost use lib.Dec.{eqb};
 ghost use lib.ListN.{length};
 ghost use Rattle.definitions.specs.Limits.{mostControls};
-ghost use Rattle.definitions.specs.Products.{degree, degreeBound};
+ghost use Rattle.definitions.specs.Products.{degreeOfZeros, degree, degreeBound};
 ghost use Rattle.degrees.specs.Parts.{counted, partDegree};
 use pads::power_of_two;
 use sets::SetSize;
+
+// 02's ceiling of a table of zeros.
+const DEGREE_OF_ZEROS: u32 = 255;
 
 // The larger of `largest` and the size of a set, if its entry is not 0.
 fn counting(largest: SetSize, entry: u32, size: SetSize) -> SetSize
@@ -52,21 +57,40 @@ fn degree_of_part(q: usize, d: SetSize, largest: SetSize, a: &[u32]) -> SetSize
     }
 }
 
-// The degree of a table (01: its ceiling).
-fn degree(n: u32, a: &[u32]) -> SetSize
+// The degree of a table (01: its ceiling). A part with no nonzero entry counts for 0, and so does the empty set: if nothing
+// larger is found, the empty set's entry tells whether the table is one of zeros.
+fn degree(n: u32, a: &[u32]) -> u32
     requires { ⌜ (n ≤ mostControls) × (length (now a) ≡ 2 ^ n) ⌝ }
-    ensures { λ r. ⌜ r .0 ≡ degree n (now (a .entry)) ⌝ }
+    ensures { λ r. ⌜ r ≡ degree n (now (a .entry)) ⌝ }
 {
-    degree_of_part(n as usize, SetSize(0), SetSize(0), a)
+    let largest = degree_of_part(n as usize, SetSize(0), SetSize(0), a);
+    if largest.0 == 0 && a[0] == 0 {
+        DEGREE_OF_ZEROS
+    } else {
+        largest.0 as u32
+    }
 }
 
-// The smaller of n and the sum of the degrees.
+// Whether one of two degrees is that of a table of zeros.
+fn either_zeros(left: u32, right: u32) -> bool
+    ensures { λ r. ⌜ r ≡ (eqb left degreeOfZeros || eqb right degreeOfZeros) ⌝ }
+{
+    left == DEGREE_OF_ZEROS || right == DEGREE_OF_ZEROS
+}
+
+// The smaller of n and the sum of the degrees; 255 if a or b is a table of zeros.
 pub fn degree_bound(n: u32, a: &[u32], b: &[u32]) -> u32
     requires { ⌜ (n ≤ mostControls) × (length (now a) ≡ 2 ^ n) × (length (now b) ≡ 2 ^ n) ⌝ }
     ensures { λ r. ⌜ r ≡ degreeBound n (now (a .entry)) (now (b .entry)) ⌝ }
 {
     let left = degree(n, a);
     let right = degree(n, b);
-    let both = left.0 + right.0;
-    if both < (n as usize) { both as u32 } else { n }
+    let both = left + right;
+    if either_zeros(left, right) {
+        DEGREE_OF_ZEROS
+    } else if both < n {
+        both
+    } else {
+        n
+    }
 }

@@ -19,9 +19,11 @@ fn entries(line: &[u8], a: &[u32], b: &[u32], result: &[u32]) {
     text(b" differ");
 }
 
-// The smaller of n and a + b.
+// The smaller of n and a + b; 255, the ceiling of a table of zeros, if a or b is.
 fn bound(n: u32, a: u32, b: u32) -> u32 {
-    if n <= a {
+    if a == plain_sums::CEILING_OF_ZEROS || b == plain_sums::CEILING_OF_ZEROS {
+        plain_sums::CEILING_OF_ZEROS
+    } else if n <= a {
         n
     } else if n - a <= b {
         n

@@ -1,6 +1,9 @@
 // Arithmetic modulo m and access to tables.
 ghost use mathlib.Core.Path.{_≡_};
 
+// 02's ceiling of a table of zeros.
+pub const CEILING_OF_ZEROS: u32 = 255;
+
 fn wide(x: u32) -> u64
     ensures { λ r. ⌜ r ≡ x ⌝ }
 {
@@ -40,13 +43,13 @@ pub fn largest_residue(m: u32) -> u32 {
     if m == 0 { 0 } else { m - 1 }
 }
 
-// The largest size of a set with a nonzero entry.
+// The largest size of a set with a nonzero entry; 255 if there is none.
 pub fn ceiling(a: &[u32]) -> u32 {
-    let mut found: u32 = 0;
+    let mut found: u32 = CEILING_OF_ZEROS;
     let mut s: usize = 0;
     while s < a.len() {
         if a[s] != 0 {
-            if found < usize::count_ones(s) {
+            if found == CEILING_OF_ZEROS || found < usize::count_ones(s) {
                 found = usize::count_ones(s);
             }
         }

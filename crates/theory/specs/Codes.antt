@@ -2,7 +2,7 @@
 --   inside→eq, eq→inside, inside-le      what the test `inside` says
 --   by-top                               a code below 2 ^ suc n has control n or not
 --   and-hh, and-lh, and-hl, inside-.., or-.., xor-..    of codes with (h) and without (l) the top control
---   size-top, size-le, size-zero         sizes
+--   size-top, size-le                    sizes; size-zero, size-none: 0 is the size of the empty set, and of no other
 --   apart-rest, size-rest                S without L, for L inside S
 use mathlib.Core.Path.{_≡_, refl, sym, ap, ap₂, _∙_, subst}
 use mathlib.Core.Bool.{false}
@@ -90,6 +90,10 @@ size-le n c h = ones-le n c h
 pub size-zero : size 0 ≡ 0
 unfolding ones
 size-zero = refl
+
+pub size-none : (S : ℕ) → size S ≡ 0 → S ≡ 0
+size-none = bin-ind (λ (S : ℕ). size S ≡ 0 → S ≡ 0) (λ e. refl)
+    (λ S ih e. omega (arith, ones-step S, ih (omega (arith, ones-step S))))
 
 -- ---- bit by bit
 

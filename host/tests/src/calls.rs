@@ -160,7 +160,7 @@ impl Call {
 
     fn ceiling(self, case: &Case, number: u32) -> u32 {
         match self {
-            Call::SubsetProduct if number == 0 => case.n.min(case.inputs.iter().map(|input| products::ceiling(input)).sum()),
+            Call::SubsetProduct if number == 0 => products::returned_ceiling(case.n, &case.inputs[0], &case.inputs[1]),
             _ => 0,
         }
     }

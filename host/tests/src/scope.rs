@@ -1,5 +1,5 @@
 //! The specification's own examples: the twelve entries worked by hand, where composers slip, and the edges; and projections
-//! worked by hand.
+//! and ceilings worked by hand.
 
 use crate::calls::{Call, Case};
 use crate::ffi;
@@ -79,9 +79,33 @@ fn projection() {
 fn slips_of_the_subset_product() {
     assert_eq!(gives(Call::SubsetProduct, 101, &[&[0, 1, 0, 0], &[0, 1, 0, 0]], &[0; 4]), 2);
     assert_eq!(gives(Call::SubsetProduct, 101, &[&[1, 0], &[1, 0]], &[1, 0]), 0);
-    assert_eq!(gives(Call::SubsetProduct, 101, &[&[0; 4], &P], &[0; 4]), 2);
-    assert_eq!(gives(Call::SubsetProduct, 101, &[&[0; 4], &[0; 4]], &[0; 4]), 0);
     assert_eq!(gives(Call::SubsetProduct, 101, &[&P, &P], &[1, 4, 6, 20]), 2);
+}
+
+/// One table of zeros is enough for 255. A table with only the empty set's entry is not one. If neither input is, the sum rule
+/// stays, also where the product is a table of zeros.
+#[test]
+fn no_session_at_all() {
+    let ceiling = |m, a: &[u32], b: &[u32], expected: &[u32]| gives(Call::SubsetProduct, m, &[a, b], expected);
+    assert_eq!(ceiling(101, &[0; 4], &[0; 4], &[0; 4]), 255);
+    assert_eq!(ceiling(101, &[0; 4], &P, &[0; 4]), 255);
+    assert_eq!(ceiling(101, &P, &[0; 4], &[0; 4]), 255);
+    assert_eq!(ceiling(101, &[0; 4], &[1, 0, 0, 0], &[0; 4]), 255);
+    assert_eq!(ceiling(5, &[0], &[4], &[0]), 255);
+    assert_eq!(ceiling(5, &[0], &[0], &[0]), 255);
+    assert_eq!(ceiling(101, &[1, 0, 0, 0], &[1, 0, 0, 0], &[1, 0, 0, 0]), 0);
+    assert_eq!(ceiling(101, &[0, 4, 0, 0, 0, 0, 0, 0], &[0, 0, 5, 0, 0, 0, 0, 0], &[0, 0, 0, 20, 0, 0, 0, 0]), 2);
+    assert_eq!(ceiling(6, &[2], &[3], &[0]), 0);
+    assert_eq!(ceiling(6, &[0, 2], &[3, 0], &[0, 0]), 1);
+}
+
+/// A refusal has ceiling 0, also where the inputs are tables of zeros.
+#[test]
+fn no_session_refused() {
+    let answer = |m, pad: usize| ffi::subset_product(2, m, &[0; 4], &[0; 4], &mut [9; 4], &mut vec![9; pad]);
+    assert_eq!(answer(101, 32), 255 << 32);
+    assert_eq!(answer(101, 31), 4);
+    assert_eq!(answer(1, 32), 2);
 }
 
 /// Under m = 3 with n = 3 no factorial can be divided by.

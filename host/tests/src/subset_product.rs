@@ -62,6 +62,24 @@ fn single_sets() {
     }
 }
 
+/// Of every panel: tables of zeros next to the empty set's entry alone, the whole panel's, and all entries. A table with one
+/// nonzero entry is not a table of zeros, also if that is the entry of a single control.
+#[test]
+fn ceilings() {
+    for n in 0..=16 {
+        let single = |set: usize| (0..1 << n).map(|s| u32::from(s == set)).collect::<Vec<u32>>();
+        let (zeros, empty, whole, all) = (vec![0; 1 << n], single(0), single((1 << n) - 1), vec![1; 1 << n]);
+        let ceiling = |a: &[u32], b: &[u32]| CALL.run(&Case::new(CALL, n, 101, vec![a.to_vec(), b.to_vec()])).ceiling;
+        for other in [&zeros, &empty, &whole, &all] {
+            assert_eq!((ceiling(&zeros, other), ceiling(other, &zeros)), (255, 255), "n = {n}");
+        }
+        assert_eq!((ceiling(&empty, &empty), ceiling(&empty, &whole), ceiling(&whole, &whole)), (0, n, n));
+        for set in (0..n).map(|control| 1 << control) {
+            assert_eq!(ceiling(&single(set), &empty), 1, "n = {n}, set {set}");
+        }
+    }
+}
+
 #[test]
 fn whatever_was_lent() {
     calls::whatever_was_lent(CALL);
