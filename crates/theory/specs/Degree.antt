@@ -4,9 +4,10 @@
 --                                       a table of zeros from all others
 --   degree-at, degree-least             of a nonzero table it is the least bound on those sizes; degree-most: at most n
 --   product-zeros                       a subset product with a table of zeros is one
---   degree-product                      the degree of a nonzero subset product is at most the bound that the call returns
+--   size-bound, degree-product          the bound that the call returns: on the size of each set with a nonzero entry in the
+--                                       subset product, so on its degree if it is nonzero
 --   zeros-returned                      where that is 255, the subset product is a table of zeros (of a panel that is not refused)
-use mathlib.Core.Path.{_≡_, refl, sym, ap, _∙_}
+use mathlib.Core.Path.{_≡_, refl, ap, _∙_}
 use mathlib.Core.Bool.{Bool, true, false, true≢false, cond, not, _&&_}
 use mathlib.Core.List.{List}
 use mathlib.Core.Logic.{_≢_, ⊎-elim}
@@ -100,17 +101,19 @@ module _ (n m : ℕ) (A B : List ℕ) where
   large-zero S h k = entry-zero S h (λ L i l a b.
       omega (arith, degree-at n A L (omega arith) a, degree-at n B (S - L) (omega arith) b, size-rest L S i))
 
-  pub degree-product : nonzero n (subsetTable n m A B) ≡ true → degree n (subsetTable n m A B) ≤ degreeBound n A B
+  pub size-bound : (S : ℕ) → S < 2 ^ n → at (subsetTable n m A B) S ≢ 0 → size S ≤ degreeBound n A B
   unfolding degreeBound
-  degree-product some = bounded (nonzero n A && nonzero n B) refl where
-    bounded : (b : Bool) → (nonzero n A && nonzero n B) ≡ b
-        → degree n (subsetTable n m A B) ≤ cond b (min n (degree n A + degree n B)) degreeOfZeros
-    bounded true e = degree-least n (subsetTable n m A B) (min n (degree n A + degree n B)) some (λ S h d.
+  size-bound S h d = bounded (nonzero n A && nonzero n B) refl where
+    bounded : (b : Bool) → (nonzero n A && nonzero n B) ≡ b → size S ≤ cond b (min n (degree n A + degree n B)) degreeOfZeros
+    bounded true e =
         ⊎-elim
         (λ (k : degree n A + degree n B < size S). absurd (d (large-zero S h k)))
         (λ (k : size S ≤ degree n A + degree n B). omega (arith, size-le n S h))
-        (below-or (degree n A + degree n B) (size S)))
-    bounded false e = absurd (true≢false (sym some ∙ product-zeros e))
+        (below-or (degree n A + degree n B) (size S))
+    bounded false e = absurd (d (zeros-at n (subsetTable n m A B) (product-zeros e) S h))
+
+  pub degree-product : nonzero n (subsetTable n m A B) ≡ true → degree n (subsetTable n m A B) ≤ degreeBound n A B
+  degree-product some = degree-least n (subsetTable n m A B) (degreeBound n A B) some size-bound
 
   -- of a panel that is not refused, the call returns 255 only if its result is a table of zeros
   pub zeros-returned : n < degreeOfZeros → degreeBound n A B ≡ degreeOfZeros → nonzero n (subsetTable n m A B) ≡ false

@@ -1,4 +1,5 @@
-// 01's worked entries, slips and edges, and projections and ceilings, run through the calls. Each line of standard input is a case:
+// 01's worked entries, slips and edges, and projections and ceilings, run through the calls. Each line of standard input is a
+// case:
 //
 //     name|call|n|m|first table|second table or row|length of the result|length of the pad
 //
