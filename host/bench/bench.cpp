@@ -1,5 +1,5 @@
-// Measures each call of the library (of the two changes of a board, adding) next to a plain implementation, in interleaved
-// rounds of one run, and prints ratios.
+// Measures each call of the library (of the two changes of a board, adding) next to a plain implementation, and a recipe next to
+// the calls that it asks for, in interleaved rounds of one run, and prints ratios.
 // Times are processor time; every buffer was written before it is measured.
 #include <algorithm>
 #include <cstdio>
@@ -35,6 +35,7 @@ struct Data {
     Table plain_result = result, plain_row = row, work = pad;
     Table board_a = a, board_e = b, plain_a = a, plain_e = b;
     u32 weight = random(5, 1)[0];
+    Table left = result, right = result, recipe_pad = Table(SPS_RECIPE_PAD_LENGTH(n), 1);
     std::vector<u8> file = std::vector<u8>(6 + 5 * entries, 1), buffer = file, plain_buffer = file;
     std::size_t file_length;
 
@@ -54,8 +55,8 @@ struct Data {
     }
 };
 
-// A call of the library and its yardstick, a plain form on the same inputs or (`other`) another call of the library; `odd_only`
-// where even moduli are refused.
+// A call of the library and its yardstick, a plain form on the same inputs, calls of the library that give the same, or (`other`)
+// another call of the library; `odd_only` where even moduli are refused.
 struct Bench {
     std::string call, yardstick;
     std::function<u64(Data &)> library;
@@ -83,6 +84,13 @@ auto with_duties(Product product) {
 #define PAD TABLE(pad)
 #define PLAIN_PRODUCT(product) \
     [](Data &d) { plain::By<Form>::product(d.n, d.m, d.a.data(), d.b.data(), d.plain_result.data(), d.work.data()); }
+
+// The recipe of this line over A, B and C; D is B once more.
+u64 recipe(const std::string &line, Data &d, const Table &a, const Table &b, const Table &c) {
+    auto bytes = reinterpret_cast<const u8 *>(line.data());
+    return sps_recipe(d.n, d.m, bytes, line.size(), a.data(), a.size(), b.data(), b.size(), c.data(), c.size(), b.data(), b.size(),
+                      RESULT, TABLE(recipe_pad));
+}
 
 // The subset product to its scalar form comes first: other calls are given in it.
 template <typename Form>
@@ -145,6 +153,19 @@ std::vector<Bench> benches() {
             return sps_exponential(d.n, d.m, TABLE(first_zero), d.work.data(), d.entries, PAD);
         });
     }
+
+    add("recipe A*B+exp(C)", "its calls",
+        [](Data &d) { return recipe("A*B+exp(C)", d, d.a, d.b, d.first_zero); }, [](Data &d) {
+            u64 product = sps_subset_product(d.n, d.m, TABLE(a), TABLE(b), TABLE(left), PAD) & 0xffffffff;
+            u32 exponential = sps_exponential(d.n, d.m, TABLE(first_zero), TABLE(right), PAD);
+            return product | exponential | sps_sum(d.n, d.m, TABLE(left), TABLE(right), TABLE(plain_result));
+        });
+    add("recipe A|B-log(C)", "its calls",
+        [](Data &d) { return recipe("A|B-log(C)", d, d.a, d.b, d.first_one); }, [](Data &d) -> u64 {
+            u32 product = sps_union_product(d.n, d.m, TABLE(a), TABLE(b), TABLE(left), PAD);
+            u32 logarithm = sps_logarithm(d.n, d.m, TABLE(first_one), TABLE(right), PAD);
+            return product | logarithm | sps_difference(d.n, d.m, TABLE(left), TABLE(right), TABLE(plain_result));
+        });
 
     auto union_ = [](Data &d) { return sps_union_product(d.n, d.m, TABLE(a), TABLE(b), RESULT, PAD); };
     auto plain_union = PLAIN_PRODUCT(union_product);
@@ -246,8 +267,9 @@ int main() {
     std::printf("Medians of %d interleaved rounds. Plain forms refuse nothing and clear no pad; from exponential to\n"
                 "projection they work by the scalar subset product. Duties: what the contract asks of a call besides its\n"
                 "product, that is testing every entry, the ceiling (subset product) and clearing the pad. The yardsticks\n"
-                "\"subset product\" and \"exponential\" are the library's own calls. Weight is added to a board at controls\n"
-                "from the middle of the panel; tests are those of every entry.\n\n", ROUNDS);
+                "\"subset product\" and \"exponential\" are the library's own calls, and so are the calls of a recipe, made one\n"
+                "by one. Weight is added to a board at controls from the middle of the panel; tests are those of every\n"
+                "entry.\n\n", ROUNDS);
     std::printf("%-44s library / yardstick at n =     library's growth   n = 16 in subset\n", "");
     std::printf("%-17s %-16s %-10s %6u %6u %6u %6u     12 to 14  14 to 16   products        ms\n",
                 "call", "yardstick", "modulus", 8, 12, 14, 16);

@@ -10,13 +10,14 @@
  * slice.  A result, a pad, a table to fill and a buffer overlap nothing else.  What they hold beforehand does not matter.
  * The tables of a board are read and written, and overlap nothing else.
  *
- * Pad.  Where a call takes a pad, it needs SPS_PAD_LENGTH(n) entries.  After an accepted call these are 0, and the rest of
- * a longer pad is unchanged.
+ * Pad.  Where a call takes a pad, it needs SPS_PAD_LENGTH(n) entries, a recipe SPS_RECIPE_PAD_LENGTH(n): the stated pad.
+ * After an accepted call these are 0, and the rest of a longer pad is unchanged.
  *
  * Refusals.  A call answers with a number: 0 when it is accepted, else that of the first of its conditions that applies, in
- * the order in which its comment names them.  (It rises, except in reading files and in changes of boards.)  Functions that
- * answer more return it packed with the number into 64 bits, as each says.  A refused call changes nothing that it was lent,
- * and every other number that it answers is 0.
+ * the order in which its comment names them.  (It rises, except in reading files, in changes of boards and in recipes.)
+ * Functions that answer more return it packed with the number into 64 bits, as each says.  A refused call changes nothing
+ * that it was lent, with one exception: where one of a recipe's calls refuses, the recipe's stated pad is 0 afterwards, and
+ * its result as it came.  Every other number that a refused call answers is 0.
  */
 #ifndef SPS_H
 #define SPS_H
@@ -29,15 +30,17 @@ enum {
     SPS_PANEL = 1,    /* n above 16 */
     SPS_MODULUS = 2,  /* m below 2; above 4294967295 no uint32_t is */
     SPS_LENGTH = 3,   /* a table not of 2^n entries or a row not of n + 1, input, result or a board's */
-    SPS_PAD = 4,      /* a pad shorter than SPS_PAD_LENGTH(n) */
+    SPS_PAD = 4,      /* a pad shorter than SPS_PAD_LENGTH(n), in a recipe than SPS_RECIPE_PAD_LENGTH(n) */
     SPS_ENTRY = 5,    /* an input entry, or the weight of a change, not below m */
-    SPS_START = 6,    /* a first entry that the call does not take */
-    SPS_HALVING = 7,  /* xor product with m even */
+    SPS_START = 6,    /* a first entry that the call, or one of a recipe's calls, does not take */
+    SPS_HALVING = 7,  /* xor product with m even, also in a recipe */
     SPS_GROUP = 8,    /* a number in a file ends early, is not in its shortest form, or is 2^32 or more */
     SPS_TAIL = 9,     /* bytes after the last entry of a file */
     SPS_SHORT = 10,   /* the buffer is shorter than the file */
     SPS_EMPTY = 11,   /* a change at the empty set */
-    SPS_CODE = 12     /* a change at a code of 2^n or more */
+    SPS_CODE = 12,    /* a change at a code of 2^n or more */
+    SPS_RECIPE = 13,  /* the line of a recipe has more than 120 bytes or is outside the grammar */
+    SPS_NESTING = 14  /* the parentheses of a recipe nest deeper than 8 */
 };
 
 #define SPS_MOST_CONTROLS 16
@@ -45,6 +48,7 @@ enum {
 #define SPS_LARGEST_MODULUS 4294967295u
 #define SPS_TABLE_LENGTH(n) ((size_t)1 << (n))
 #define SPS_PAD_LENGTH(n) ((2 * (size_t)(n) + 4) << (n))
+#define SPS_RECIPE_PAD_LENGTH(n) (SPS_PAD_LENGTH(n) + ((size_t)32 << (n)))
 
 #ifdef __cplusplus
 extern "C" {
@@ -163,6 +167,27 @@ uint32_t sps_board_add(uint32_t n, uint32_t m, uint32_t set, uint32_t weight,
 uint32_t sps_board_take(uint32_t n, uint32_t m, uint32_t set, uint32_t weight,
                         uint32_t *a, size_t a_len,
                         uint32_t *e, size_t e_len);
+
+/* ---- Recipes -------------------------------------------------------------------------------------------------------
+ * A recipe is a line over four tables named A to D, such as A*B+exp(C).  It is a letter; or two recipes with a sign between
+ * them; or a recipe in parentheses, with nothing, exp, log or inv before these.  The signs are * for the subset product, |
+ * for the union product, ^ for the xor product, + and - for sum and difference.  The star binds tightest, then | and ^ alike,
+ * then + and - alike; equal ones go from left to right.  A line has at most 120 bytes and no blanks (and the 0 that ends a C
+ * string is none of its bytes); its parentheses nest to depth 8, those of the three functions counted. */
+
+/* The table that the calls of the line give, made one by one: what is inside before its function, the left operand before
+ * the right.  One letter alone gives that table.  All four tables are tested, used or not.  Refusals 1, 2, 3, 4, 13, 14, 5,
+ * in this order, then 6 or 7 of the first of its calls that refuses.  13 is looked for in the whole line before 14; an empty
+ * line is 13.  After success and after 6 or 7 the stated pad, SPS_RECIPE_PAD_LENGTH(n) entries, is 0; after 6 or 7 the result
+ * is as it came.  Time: that of its calls, and 2^n * n. */
+uint32_t sps_recipe(uint32_t n, uint32_t m,
+                    const uint8_t *line, size_t line_len,
+                    const uint32_t *a, size_t a_len,
+                    const uint32_t *b, size_t b_len,
+                    const uint32_t *c, size_t c_len,
+                    const uint32_t *d, size_t d_len,
+                    uint32_t *result, size_t result_len,
+                    uint32_t *pad, size_t pad_len);
 
 /* ---- Table files ---------------------------------------------------------------------------------------------------
  * A file is n, then m, then the 2^n entries in rising code, then nothing.  A number is written in groups of seven bits,

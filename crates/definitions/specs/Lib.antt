@@ -8,9 +8,11 @@ pub mod Projection
 pub mod Refusals
 pub mod Boards
 pub mod Outcomes
+pub mod Recipes
 pub mod Groups
 pub mod Files
 pub mod Show
 pub mod Worked
 pub mod WorkedBoards
+pub mod WorkedRecipes
 pub mod Samples

@@ -1,4 +1,4 @@
--- The limits of document 01, each named once.
+-- The limits of documents 01 and 02, each named once.
 use Prim.Native.Nat.{ℕ, _+_, _*_, _^_}
 
 -- the most controls that a panel has
@@ -18,3 +18,14 @@ largestModulus = 4294967295
 -- 01's W: how many entries of a pad a call uses
 unfoldable pub padLength : ℕ → ℕ
 padLength n = (2 * n + 4) * 2 ^ n
+
+-- 02's limits of a recipe: the bytes of its line, and how deep its parentheses nest
+abbrev pub longestRecipe : ℕ
+longestRecipe = 120
+
+abbrev pub deepestNesting : ℕ
+deepestNesting = 8
+
+-- how many entries of its pad a recipe uses: W, and 32 tables
+unfoldable pub recipePadLength : ℕ → ℕ
+recipePadLength n = padLength n + 32 * 2 ^ n

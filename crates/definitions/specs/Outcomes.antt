@@ -1,4 +1,4 @@
--- What a reading step gives: a value, or a word of refusal. Steps follow one another, and the first refusal counts.
+-- What a step gives, of reading or of a recipe: a value, or a word of refusal. Steps follow one another, and the first refusal counts.
 use Prim.Native.Nat.{ℕ, zero, suc}
 
 pub data Outcome (X : Type 0) : Type 0 where

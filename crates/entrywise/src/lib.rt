@@ -11,7 +11,7 @@ pub use binomial::binomial_product;
 use checks::Checked;
 use residues::Modulus;
 
-fn add_entries(modulus: Modulus, a: &[u32], b: &[u32], result: &mut [u32])
+pub fn add_entries(modulus: Modulus, a: &[u32], b: &[u32], result: &mut [u32])
     requires { ⌜ Inputs modulus (length (now result)) (now a) (now b) ⌝ }
     ensures { λ _. ⌜ now (result .exit) ≡ tabulate (length (now (result .entry))) (sumAt (modulus .value) (now (a .entry)) (now (b .entry))) ⌝ }
 {
@@ -22,7 +22,7 @@ fn add_entries(modulus: Modulus, a: &[u32], b: &[u32], result: &mut [u32])
     }
 }
 
-fn subtract_entries(modulus: Modulus, a: &[u32], b: &[u32], result: &mut [u32])
+pub fn subtract_entries(modulus: Modulus, a: &[u32], b: &[u32], result: &mut [u32])
     requires { ⌜ Inputs modulus (length (now result)) (now a) (now b) ⌝ }
     ensures { λ _. ⌜ now (result .exit) ≡ tabulate (length (now (result .entry))) (differenceAt (modulus .value) (now (a .entry)) (now (b .entry))) ⌝ }
 {

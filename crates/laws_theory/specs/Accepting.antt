@@ -49,7 +49,7 @@ module _ {n m : ℕ} (range : InRange n m) where
       ∙ no-more (rowWord n r) (orElse-go _ _ (entries-below hf) ∙ orElse-go _ _ (entries-below hg))
 
   module _ {a : List ℕ} (ha : IsTable n m a) (r p : ℕ) where
-    single-number : singleNumber n m a r p ≡ firstWord (tableWord n r ∷ padWord n p ∷ [])
+    pub single-number : singleNumber n m a r p ≡ firstWord (tableWord n r ∷ padWord n p ∷ [])
     unfolding singleNumber
     single-number =
         in-range _ ∙ orElse-go _ _ (entries-length ha)

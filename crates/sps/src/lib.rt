@@ -8,6 +8,8 @@ ghost use Rattle.definitions.specs.Projection.{projectionRow};
 ghost use Rattle.definitions.specs.Refusals.{sumNumber, binomialNumber, productNumber, xorNumber, exponentialNumber, logarithmNumber, compositionNumber, inverseNumber, projectionNumber};
 ghost use Rattle.definitions.specs.Refusals.{after, valueAfter, padAfter};
 ghost use Rattle.definitions.specs.Boards.{board, addedAt, raisedOver, lacking, freshBoard, freshNumber, changeNumber};
+ghost use Rattle.definitions.specs.Outcomes.{Outcome};
+ghost use Rattle.definitions.specs.Recipes.{Tree, sum, ReadAs, Choice, lettered, recipeNumber, recipeResult, recipePad};
 ghost use Rattle.definitions.specs.Files.{headerNumber, headerControls, headerModulus, packed, readerNumber, readerControls, readerModulus, tableRead, writerNumber, writtenCount, writtenBuffer};
 ghost use Rattle.theory.specs.Logarithm.{logarithmOf};
 ghost use Rattle.series_calls.specs.InverseTables.{inverseTable};
@@ -213,6 +215,25 @@ pub extern "C" fn sps_board_take(
     ensures { λ r. ⌜ now (e .exit) ≡ after r (raisedOver n m set (lacking m weight) (now (e .entry))) (now (e .entry)) ⌝ }
 {
     board_calls::board_take(n, m, set, weight, a, e)
+}
+
+#[no_mangle]
+pub extern "C" fn sps_recipe(
+    n: u32,
+    m: u32,
+    line: &[u8],
+    a: &[u32],
+    b: &[u32],
+    c: &[u32],
+    d: &[u32],
+    result: &mut [u32],
+    pad: &mut [u32],
+) -> u32
+    ensures { λ r. ⌜ ((read : Outcome (Tree sum)) → ReadAs (now (line .entry)) read → (by : Choice n m) → r ≡ recipeNumber n m read (lettered (now (a .entry)) (now (b .entry)) (now (c .entry)) (now (d .entry))) by (now (result .entry)) (now (pad .entry))) ⌝ }
+    ensures { λ _. ⌜ ((read : Outcome (Tree sum)) → ReadAs (now (line .entry)) read → (by : Choice n m) → now (result .exit) ≡ recipeResult n m read (lettered (now (a .entry)) (now (b .entry)) (now (c .entry)) (now (d .entry))) by (now (result .entry)) (now (pad .entry))) ⌝ }
+    ensures { λ _. ⌜ ((read : Outcome (Tree sum)) → ReadAs (now (line .entry)) read → now (pad .exit) ≡ recipePad n m read (lettered (now (a .entry)) (now (b .entry)) (now (c .entry)) (now (d .entry))) (length (now (result .entry))) (now (pad .entry))) ⌝ }
+{
+    recipes::recipe(n, m, line, a, b, c, d, result, pad)
 }
 
 #[no_mangle]

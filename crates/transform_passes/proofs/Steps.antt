@@ -1,5 +1,5 @@
 -- From one step of a product to the next.
-use mathlib.Core.Path.{_≡_, ap₂, subst, _∙_}
+use mathlib.Core.Path.{_≡_, ap₂, subst}
 use mathlib.Core.List.{List}
 use Prim.Native.Nat.{ℕ, _*_, _<_}
 use native.Mathlib.Nat.{mod-lt}
@@ -27,7 +27,7 @@ module _ {n : ℕ} {modulus : Modulus} where
   multiplied h a b e = ready h (rw e (point-table n (modulus .value) a b (omega (arith, h .table .below 0))))
 
 -- the last transform is of the product of the first two
-pub convolved : {m n : ℕ} {there back : Transform} {a b r o k l : List ℕ} → Transformed m there n a r → Transformed m there n b o
-    → k ≡ pointTable n m r o → Transformed m back n k l → Transformed m back n (products n m there a b) l
-convolved {m} {n} {back = back} {l = l} p q e h =
-    subst (λ (x : List ℕ). Transformed m back n x l) (e ∙ ap₂ (pointTable n m) (p .is) (q .is)) h
+pub convolved : {m n : ℕ} {there back : Transform} {a b r o l : List ℕ} → Transformed m there n a r → Transformed m there n b o
+    → Transformed m back n (pointTable n m r o) l → Transformed m back n (products n m there a b) l
+convolved {m} {n} {back = back} {l = l} p q h =
+    subst (λ (x : List ℕ). Transformed m back n x l) (ap₂ (pointTable n m) (p .is) (q .is)) h

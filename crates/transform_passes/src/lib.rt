@@ -5,6 +5,7 @@ ghost use Prim.Native.Nat.{ℕ, _+_, _-_, _*_, _%_, _^_, _<_, _≤_};
 ghost use lib.ListN.{length};
 ghost use Rattle.definitions.specs.Sums.{tabulate, at};
 ghost use Rattle.theory.specs.Passes.{crossed, pass};
+ghost use Rattle.theory.specs.Convolution.{pointTable};
 ghost use Rattle.residues.specs.Moduli.{Valid, Below};
 ghost use Rattle.checks.specs.Accepted.{Entries};
 ghost use Rattle.pointwise.specs.Tables.{Ready};
@@ -213,6 +214,35 @@ pub fn halved(n: u32, modulus: Modulus) -> u32
     r
 }
 
+// The table becomes its product, entry by entry, with another, and is transformed back.
+fn multiply_back(back: Transform, n: u32, modulus: Modulus, table: &mut [u32], other: &[u32])
+    requires { ⌜ Ready n modulus (now table) ⌝ }
+    requires { ⌜ Ready n modulus (now other) ⌝ }
+    ensures { λ _. ⌜ Transformed (modulus .value) back n (pointTable n (modulus .value) (now (table .entry)) (now (other .entry))) (now (table .exit)) ⌝ }
+{
+    pointwise::multiply(n, modulus, other, table);
+    back.apply(n, modulus, table);
+}
+
+// Two tables transformed where they stand, and the first multiplied by the other entry by entry and transformed back. `other` is
+// overwritten.
+pub fn convolve_in_place(
+    there: Transform,
+    back: Transform,
+    n: u32,
+    modulus: Modulus,
+    table: &mut [u32],
+    other: &mut [u32],
+)
+    requires { ⌜ Ready n modulus (now table) ⌝ }
+    requires { ⌜ Ready n modulus (now other) ⌝ }
+    ensures { λ _. ⌜ Transformed (modulus .value) back n (products n (modulus .value) there (now (table .entry)) (now (other .entry))) (now (table .exit)) ⌝ }
+{
+    there.apply(n, modulus, table);
+    there.apply(n, modulus, other);
+    multiply_back(back, n, modulus, table, other);
+}
+
 // A table transformed into another slice.
 fn load(transform: Transform, n: u32, modulus: Modulus, from: &[u32], to: &mut [u32])
     requires { ⌜ Ready n modulus (now from) ⌝ }
@@ -242,6 +272,5 @@ pub fn convolve(
 {
     load(there, n, modulus, a, result);
     load(there, n, modulus, b, other);
-    pointwise::multiply(n, modulus, other, result);
-    back.apply(n, modulus, result);
+    multiply_back(back, n, modulus, result, other);
 }

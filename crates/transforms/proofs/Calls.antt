@@ -1,22 +1,17 @@
--- From what a check tells to what a product needs, and from what the transforms make to the tables that the calls promise.
-use mathlib.Core.Path.{_≡_, ap, _∙_}
+-- From what a check tells to what a product needs.
+use mathlib.Core.Path.{_≡_}
 use mathlib.Core.Bool.{false}
 use mathlib.Core.List.{List}
-use Prim.Native.Nat.{ℕ, _*_, _%_}
+use Prim.Native.Nat.{ℕ, _%_}
 use native.Mathlib.Omega.{arith}
 use lib.Dec.{eqb}
 use borrow.Author.Tests.{eqb-false}
-use Rattle.definitions.specs.Sums.{at}
-use Rattle.definitions.specs.Products.{residues, unionTable, xorTable}
 use Rattle.definitions.specs.Refusals.{productNumber, xorNumber, halvingWord}
-use Rattle.theory.specs.Convolution.{union-by-zeta, xor-halved}
 use Rattle.residues.specs.declared.Modulus.{Modulus}
 use Rattle.checks.specs.Accepted.{Product, IsTable, product-accepted}
 use Rattle.checks.specs.Answers.{Stands}
 use Rattle.checks.specs.Words.{no-word, orElse-first, orElse-second}
 use Rattle.pointwise.specs.Tables.{Ready}
-use Rattle.transform_passes.specs.Steps.{Transformed, products, Halves}
-use Rattle.transform_passes.specs.declared.Transform.the-variants.{Zeta, Moebius, Walsh}
 use Rattle.transforms.specs.Inputs.{Inputs}
 
 module _ {n m r p : ℕ} {a b : List ℕ} {modulus : Modulus} (s : Stands modulus m) (h : Product n m a b r p) where
@@ -41,21 +36,3 @@ module _ (n m : ℕ) (a b : List ℕ) (r p : ℕ) where
   xor-odd zero =
       let no : eqb (m % 2) 0 ≡ false = no-word (eqb (m % 2) 0) 7 (λ z. omega arith) (orElse-second (productNumber n m a b r p) (halvingWord m) zero) in
       omega (arith, eqb-false (m % 2) 0 no)
-
--- ---- what the transforms make
-
-module _ {n : ℕ} {modulus : Modulus} {a b : List ℕ} {r p : ℕ} (h : Inputs n modulus a b r p) where
-  abbrev m : ℕ
-  m = modulus .value
-
-  pub union-made : {l : List ℕ} → Transformed m Moebius n (products n m Zeta a b) l → l ≡ unionTable n m a b
-  union-made e =
-      let below = h .first .table .below in
-      e .is ∙ union-by-zeta m (omega (arith, below 0)) n a b (λ S k. below S) (λ S k. h .second .table .below S)
-
-  pub xor-made : {k l : List ℕ} {u : ℕ} → Transformed m Walsh n (products n m Walsh a b) k → Halves n m u
-      → l ≡ residues n m (λ S. u * at k S) → l ≡ xorTable n m a b
-  xor-made {u = u} e half f =
-      let below = h .first .table .below in
-      f ∙ ap (λ (k : List ℕ). residues n m (λ S. u * at k S)) (e .is)
-      ∙ xor-halved m (omega (arith, below 0)) n a b (λ S k. below S) (λ S k. h .second .table .below S) u (half .one)

@@ -30,6 +30,9 @@ mod raw {
             a: *mut u32, a_len: usize, e: *mut u32, e_len: usize) -> u32;
         pub fn sps_board_take(n: u32, m: u32, set: u32, weight: u32,
             a: *mut u32, a_len: usize, e: *mut u32, e_len: usize) -> u32;
+        pub fn sps_recipe(n: u32, m: u32, line: *const u8, line_len: usize, a: *const u32, a_len: usize,
+            b: *const u32, b_len: usize, c: *const u32, c_len: usize, d: *const u32, d_len: usize,
+            result: *mut u32, result_len: usize, pad: *mut u32, pad_len: usize) -> u32;
         pub fn sps_header_check(bytes: *const u8, len: usize) -> u64;
         pub fn sps_read_table(bytes: *const u8, len: usize, table: *mut u32, table_len: usize) -> u64;
         pub fn sps_write_table(n: u32, m: u32, table: *const u32, table_len: usize,
@@ -87,6 +90,15 @@ pub fn board_add(n: u32, m: u32, set: u32, weight: u32, a: &mut [u32], e: &mut [
 pub fn board_take(n: u32, m: u32, set: u32, weight: u32, a: &mut [u32], e: &mut [u32]) -> u32 {
     // Sound: as above.
     unsafe { raw::sps_board_take(n, m, set, weight, a.as_mut_ptr(), a.len(), e.as_mut_ptr(), e.len()) }
+}
+
+pub fn recipe(n: u32, m: u32, line: &[u8], tables: [&[u32]; 4], result: &mut [u32], pad: &mut [u32]) -> u32 {
+    let (line, [a, b, c, d]) = ((line.as_ptr(), line.len()), tables.map(|table| (table.as_ptr(), table.len())));
+    let (result, pad) = ((result.as_mut_ptr(), result.len()), (pad.as_mut_ptr(), pad.len()));
+    // Sound: as above.
+    unsafe {
+        raw::sps_recipe(n, m, line.0, line.1, a.0, a.1, b.0, b.1, c.0, c.1, d.0, d.1, result.0, result.1, pad.0, pad.1)
+    }
 }
 
 pub fn header_check(bytes: &[u8]) -> u64 {

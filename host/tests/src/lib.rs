@@ -15,6 +15,7 @@ mod entrywise;
 mod laws;
 mod panelshow;
 mod partition_calls;
+mod recipes;
 mod refusals;
 mod scope;
 mod subset_product;

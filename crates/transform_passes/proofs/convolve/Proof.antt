@@ -1,5 +1,5 @@
+use Rattle.transform_passes.proofs.Steps.{convolved}
 use borrow.Author.Needs.{needs}
-use Rattle.transform_passes.proofs.Steps.{multiplied, convolved}
 use Rattle.transform_passes.proofs.convolve.Statement.{statement}
 use Rattle.transform_passes.proofs.convolve.Tie as tie
 
@@ -9,12 +9,8 @@ load-requires c κs = search needs
 load-requires-2 : tie.Need-load-requires-2
 load-requires-2 c κs = search needs
 
-multiply-requires : tie.Need-multiply-requires
-multiply-requires c κs = search needs
-
-apply-requires : tie.Need-apply-requires
-apply-requires c κs =
-    multiplied (c .before .before .before .before .before .before .before .before .before .before .before .before .before .before .before .before .before .before .pre .0) _ _ (c .before .before .before .multiply .ensures)
+multiply-back-requires : tie.Need-multiply-back-requires
+multiply-back-requires c κs = search needs
 
 same-length : tie.Need-same-length
 same-length c = search needs
@@ -24,7 +20,9 @@ same-length-2 c = search needs
 
 returns : tie.Need-returns
 returns c =
-    convolved (c .before .before .before .before .before .before .before .before .before .before .before .before .before .before .before .load .ensures) (c .before .before .before .before .before .before .before .before .before .before .before .load2 .ensures) (c .before .before .before .before .before .before .multiply .ensures) (c .before .before .apply .ensures)
+    let at-load2 = c .before .before .before .before .before .before .before in
+    let at-load = at-load2 .before .before .before .before in
+    convolved (at-load .load .ensures) (at-load2 .load2 .ensures) (c .before .before .multiply-back .ensures)
 
 pub convolve-spec : {M : Type 1} → statement M
 convolve-spec =
@@ -32,8 +30,7 @@ convolve-spec =
     (tie.spec
     load-requires
     load-requires-2
-    multiply-requires
-    apply-requires
+    multiply-back-requires
     same-length
     same-length-2
     returns)

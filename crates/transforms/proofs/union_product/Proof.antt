@@ -4,7 +4,8 @@ use Rattle.definitions.specs.Products.{unionTable}
 use Rattle.checks.specs.Accepted.{product-accepted}
 use Rattle.checks.specs.Answers.{accepted}
 use Rattle.checks.specs.Ends.{accepted-call, refused-call}
-use Rattle.transforms.proofs.Calls.{inputs, union-made}
+use Rattle.transform_passes.specs.Made.{union-made}
+use Rattle.transforms.proofs.Calls.{inputs}
 use borrow.Author.Needs.{needs}
 use Rattle.transforms.proofs.union_product.Statement.{statement}
 use Rattle.transforms.proofs.union_product.Tie as tie
@@ -38,7 +39,8 @@ returns c =
     let h = at .before .before .check-product .ensures in
     let e = at .modulus .given .1 in
     let done = c .before .before .before .before .product-by .ensures in
-    accepted-call h e (λ (m : ℕ). unionTable (s .n) m (now (s .a)) (now (s .b))) (union-made (inputs (h .stands _ e) (product-accepted _ _ _ _ _ _ (accepted h e))) (done .0)) _ _ (done .1)
+    let i = inputs (h .stands _ e) (product-accepted _ _ _ _ _ _ (accepted h e)) in
+    accepted-call h e (λ (m : ℕ). unionTable (s .n) m (now (s .a)) (now (s .b))) (union-made (i .first .table) (i .second .table) (done .0)) _ _ (done .1)
 
 returns-2 : tie.Need-returns-2
 returns-2 c =

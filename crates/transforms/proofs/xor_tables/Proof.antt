@@ -1,4 +1,4 @@
-use Rattle.transforms.proofs.Calls.{xor-made}
+use Rattle.transform_passes.specs.Made.{xor-made}
 use borrow.Author.Needs.{needs}
 use Rattle.transforms.proofs.xor_tables.Statement.{statement}
 use Rattle.transforms.proofs.xor_tables.Tie as tie
@@ -21,7 +21,8 @@ same-length-2 c = search needs
 returns : tie.Need-returns
 returns c =
     let done = c .before .before .before .before .before .before .before .before .before .product-by .ensures in
-    (xor-made (c .before .before .before .before .before .before .before .before .before .before .before .before .before .before .before .before .pre .0) (done .0) (c .before .before .before .before .halved .ensures) (c .before .before .scale .ensures), done .1)
+    let h = c .before .before .before .before .before .before .before .before .before .before .before .before .before .before .before .before .pre .0 in
+    (xor-made (h .first .table) (h .second .table) (done .0) (c .before .before .before .before .halved .ensures) (c .before .before .scale .ensures), done .1)
 
 pub xor-tables-spec : {M : Type 1} → statement M
 xor-tables-spec =

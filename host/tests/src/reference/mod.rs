@@ -5,6 +5,7 @@ pub mod boards;
 pub mod files;
 pub mod partitions;
 pub mod products;
+pub mod recipes;
 pub mod refusals;
 
 /// x · y modulo m.

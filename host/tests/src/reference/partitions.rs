@@ -106,6 +106,16 @@ pub fn exponential_by_blocks(m: u32, a: &[u32]) -> Vec<u32> {
     result
 }
 
+/// The logarithm for larger panels: of the blocks that have the set's lowest control only the set itself has an unknown
+/// entry, which still is 0.
+pub fn logarithm_by_blocks(m: u32, e: &[u32]) -> Vec<u32> {
+    let mut a = vec![0; e.len()];
+    for set in 1..e.len() {
+        a[set] = minus(e[set], with_first_block(set, m, &a, e), m);
+    }
+    a
+}
+
 /// The sum over the blocks inside the set that have its lowest control, of a at the block times `rest` at what is left.
 fn with_first_block(set: usize, m: u32, a: &[u32], rest: &[u32]) -> u32 {
     if set == 0 {
@@ -131,5 +141,7 @@ fn both_ways_to_sum_over_partitions_agree() {
         assert_eq!(composition(m, &a, &f), composition_by_blocks(m, &a, &f));
         assert_eq!(exponential(m, &a), exponential_by_blocks(m, &a));
         assert_eq!(projection(m, &a, &a), projection_by_blocks(m, &a, &a));
+        let e: Vec<u32> = std::iter::once(1).chain(a.into_iter().skip(1)).collect();
+        assert_eq!(logarithm(m, &e), logarithm_by_blocks(m, &e));
     }
 }

@@ -1,4 +1,5 @@
-//! The number that a call on tables and rows answers: the lowest of the conditions that apply. (Boards have their own order.)
+//! The number that a call on tables and rows answers: the lowest of the conditions that apply. (Boards and recipes have their
+//! own order.)
 
 use super::greatest_common_divisor;
 use crate::calls::{Call, Case, Shape};

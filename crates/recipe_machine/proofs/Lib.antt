@@ -1,0 +1,4 @@
+mod Codes
+mod Places
+mod Steps
+mod Runs

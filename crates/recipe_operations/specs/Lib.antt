@@ -1,0 +1,3 @@
+pub mod Codes
+pub mod Operands
+pub mod Places

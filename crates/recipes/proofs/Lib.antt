@@ -1,0 +1,2 @@
+mod Accepted
+mod Ends
