@@ -1,5 +1,5 @@
-// Measures each call of the library (of the two changes of a board, adding) next to a plain implementation, and a recipe next to
-// the calls that it asks for, in interleaved rounds of one run, and prints ratios.
+// Measures each call of the library (of the two changes of a board, adding) next to a plain implementation, a recipe next to the
+// calls that it asks for, and sparse files next to full ones, in interleaved rounds of one run, and prints ratios.
 // Times are processor time; every buffer was written before it is measured.
 #include <algorithm>
 #include <cstdio>
@@ -18,7 +18,9 @@
 
 namespace {
 
+using plain::Kind;
 using Table = std::vector<u32>;
+using Bytes = std::vector<u8>;
 
 const u32 PANELS[] = {8, 12, 14, 16};
 const u32 MODULI[] = {998244353, 2147483647, 4294967291, 4294967294, 4294967295};
@@ -36,13 +38,14 @@ struct Data {
     Table board_a = a, board_e = b, plain_a = a, plain_e = b;
     u32 weight = random(5, 1)[0];
     Table left = result, right = result, recipe_pad = Table(SPS_RECIPE_PAD_LENGTH(n), 1);
-    std::vector<u8> file = std::vector<u8>(6 + 5 * entries, 1), buffer = file, plain_buffer = file;
-    std::size_t file_length;
+    Table few = with_nonzero(std::max<std::size_t>(1, 300 * entries >> 16)), all = with_nonzero(entries);
+    Bytes buffer = Bytes(9 + 6 * entries, 1), plain_buffer = buffer;
+    Bytes file = file_of(Kind::Full, a), few_full = file_of(Kind::Full, few);
+    Bytes few_sparse = file_of(Kind::Sparse, few), all_sparse = file_of(Kind::Sparse, all);
 
     Data(u32 n, u32 m) : n(n), m(m) {
         first_zero[0] = 0;
         first_one[0] = 1;
-        file_length = plain::write_table(n, m, a.data(), file.data()) >> 32;
     }
 
     Table random(u64 seed, std::size_t length) const {
@@ -52,6 +55,23 @@ struct Data {
             entry = static_cast<u32>((seed >> 32) % m);
         }
         return entries;
+    }
+
+    // A table with so many entries that are not 0, spread over the panel at random.
+    Table with_nonzero(std::size_t count) const {
+        Table table(entries), dice = random(6, entries);
+        for (std::size_t code = 0; code < entries; code++) {
+            bool chosen = dice[code] % (entries - code) < count;
+            if (chosen) table[code] = std::max(a[code], u32{1});
+            count -= chosen;
+        }
+        return table;
+    }
+
+    Bytes file_of(Kind kind, const Table &table) const {
+        Bytes bytes = buffer;
+        bytes.resize(plain::write_table(kind, n, m, table.data(), bytes.data()) >> 32);
+        return bytes;
     }
 };
 
@@ -82,6 +102,7 @@ auto with_duties(Product product) {
 #define TABLE(x) d.x.data(), d.x.size()
 #define RESULT TABLE(result)
 #define PAD TABLE(pad)
+#define LENT(member) (d.*member).data(), (d.*member).size()
 #define PLAIN_PRODUCT(product) \
     [](Data &d) { plain::By<Form>::product(d.n, d.m, d.a.data(), d.b.data(), d.plain_result.data(), d.work.data()); }
 
@@ -182,20 +203,46 @@ std::vector<Bench> benches() {
         [](Data &d) { plain::By<Form>::difference(d.n, d.m, d.a.data(), d.b.data(), d.plain_result.data()); });
     add("binomial product", "plain", [](Data &d) { return sps_binomial_product(d.n, d.m, TABLE(f), TABLE(g), TABLE(row)); },
         [](Data &d) { plain::binomial_product(d.n, d.m, d.f.data(), d.g.data(), d.plain_row.data()); });
-    add("header check", "plain", [](Data &d) { return sps_header_check(d.file.data(), d.file_length); },
-        [](Data &d) { return plain::header_check(d.file.data(), d.file_length); });
-    add("reader", "plain", [](Data &d) { return sps_read_table(d.file.data(), d.file_length, RESULT); },
-        [](Data &d) { return plain::read_table(d.file.data(), d.file_length, d.plain_result.data()); });
-    add("writer", "plain", [](Data &d) { return sps_write_table(d.n, d.m, TABLE(a), TABLE(buffer)); },
-        [](Data &d) { return plain::write_table(d.n, d.m, d.a.data(), d.plain_buffer.data()); });
+    add("header check", "plain", [](Data &d) { return sps_header_check(TABLE(file)); },
+        [](Data &d) { return plain::header_check(TABLE(file)); });
+    // Next to a plain form that trusts what it is lent, and to one with all tests made first.
+    auto add_reader = [&](std::string call, Bytes Data::*file) {
+        auto reader = [file](Data &d) { return sps_read_table(LENT(file), RESULT); };
+        add(call, "plain", reader, [file](Data &d) { return plain::read_table(LENT(file), d.plain_result.data()); });
+        add(call, "plain + tests", reader, [file](Data &d) { return plain::read_table_tested(LENT(file), TABLE(plain_result)); });
+        return reader;
+    };
+    add_reader("reader", &Data::file);
+    auto few_reader = add_reader("sparse reader few", &Data::few_sparse);
+    add_in("full reader", "sparse reader few", few_reader,
+        [](Data &d) { return sps_read_table(TABLE(few_full), TABLE(plain_result)); });
+    add_reader("sparse reader all", &Data::all_sparse);
+
+    auto add_writer = [&](std::string call, Kind kind, Table Data::*table) {
+        auto write = kind == Kind::Full ? sps_write_table : sps_write_sparse;
+        auto writer = [write, table](Data &d) { return write(d.n, d.m, LENT(table), TABLE(buffer)); };
+        add(call, "plain", writer, [kind, table](Data &d) {
+            return plain::write_table(kind, d.n, d.m, (d.*table).data(), d.plain_buffer.data());
+        });
+        add(call, "plain + tests", writer, [kind, table](Data &d) {
+            return plain::write_table_tested(kind, d.n, d.m, LENT(table), TABLE(plain_buffer));
+        });
+        return writer;
+    };
+    add_writer("writer", Kind::Full, &Data::a);
+    auto few_writer = add_writer("sparse writer few", Kind::Sparse, &Data::few);
+    add_in("full writer", "sparse writer few", [few_writer](Data &d) { return few_writer(d) & 0xffffffff; },
+        [](Data &d) { return sps_write_table(d.n, d.m, TABLE(few), TABLE(plain_buffer)) & 0xffffffff; });
+    add_writer("sparse writer all", Kind::Sparse, &Data::all);
     return all;
 }
 
-// Both give the same, from the same full board; two calls of the library are both accepted. This also writes every buffer once
-// before it is measured.
+// Both give the same, from the same full board and into the same buffer; two calls of the library are both accepted. This also
+// writes every buffer once before it is measured.
 void compare(const Bench &bench, Data &d) {
     d.board_a = d.plain_a = d.a;
     d.board_e = d.plain_e = d.b;
+    d.plain_buffer = d.buffer;
     u64 library = bench.library(d), plain = bench.plain(d);
     bool same = d.result == d.plain_result && d.row == d.plain_row && d.buffer == d.plain_buffer && d.board_a == d.plain_a
         && d.board_e == d.plain_e;
@@ -264,11 +311,14 @@ int main() {
         }
     }
 
-    std::printf("Medians of %d interleaved rounds. Plain forms refuse nothing and clear no pad; from exponential to\n"
+    std::printf("Medians of %d interleaved rounds. Plain forms without duties or tests refuse nothing and clear no pad; from exponential to\n"
                 "projection they work by the scalar subset product. Duties: what the contract asks of a call besides its\n"
                 "product, that is testing every entry, the ceiling (subset product) and clearing the pad. The yardsticks\n"
-                "\"subset product\" and \"exponential\" are the library's own calls, and so are the calls of a recipe, made one\n"
-                "by one. Weight is added to a board at controls from the middle of the panel; tests are those of every\n"
+                "\"subset product\", \"exponential\", \"full reader\" and \"full writer\" are the library's own calls, and so are\n"
+                "the calls of a recipe, made one by one. Weight is added to a board at controls from the middle of the panel;\n"
+                "tests are those of every entry, in a reader those of everything in the file, in a writer also that of the\n"
+                "buffer's length, all made before the table or the buffer is touched. A plain reader goes over the file once.\n"
+                "In \"few\" 300 of 65,536 entries are not 0, on smaller panels the same share and at least one; in \"all\" every\n"
                 "entry.\n\n", ROUNDS);
     std::printf("%-44s library / yardstick at n =     library's growth   n = 16 in subset\n", "");
     std::printf("%-17s %-16s %-10s %6u %6u %6u %6u     12 to 14  14 to 16   products        ms\n",

@@ -1,4 +1,5 @@
-// The calls as one would write them in C++ without proofs and without refusals: what the library is measured against.
+// The calls as one would write them in C++ without proofs and, where no tests are named, without refusals: what the library is
+// measured against.
 #pragma once
 #include <cstddef>
 #include <cstdint>
@@ -59,10 +60,17 @@ void binomial_product(u32 n, u32 m, const u32 *f, const u32 *g, u32 *result);
 void board_fresh(u32 n, u32 *a, u32 *e);
 void board_add(u32 n, u32 m, u32 set, u32 weight, u32 *a, u32 *e);
 
-// Each answers what the library's function of the same name does, of files that are in order.
+// Table files. Each answers what the library's function does.
+enum class Kind { Full, Sparse };
+
+// Of files and tables that are in order and buffers that are long enough; a file is read in a single pass.
 u64 header_check(const u8 *bytes, std::size_t length);
 u64 read_table(const u8 *bytes, std::size_t length, u32 *table);
-u64 write_table(u32 n, u32 m, const u32 *table, u8 *buffer);
+u64 write_table(Kind kind, u32 n, u32 m, const u32 *table, u8 *buffer);
+
+// With the tests that the contract asks for, all made before the table or the buffer is touched.
+u64 read_table_tested(const u8 *bytes, std::size_t length, u32 *table, std::size_t table_length);
+u64 write_table_tested(Kind kind, u32 n, u32 m, const u32 *table, std::size_t table_length, u8 *buffer, std::size_t buffer_length);
 
 // By one of the two forms above.
 template <typename Form>

@@ -1,4 +1,4 @@
-// Test of entries, entrywise calls, union and xor product, binomial product, boards and table files as plain loops.
+// Test of entries, entrywise calls, union and xor product, binomial product and boards as plain loops.
 #include "plain.h"
 
 #include <algorithm>
@@ -77,19 +77,6 @@ void plain::binomial_product(u32 n, u32 m, const u32 *f, const u32 *g, u32 *resu
     }
 }
 
-static u32 take_number(const u8 *&at) {
-    u32 value = 0;
-    for (u32 shift = 0;; shift += 7) {
-        value |= u32{*at & 0x7fu} << shift;
-        if (*at++ < 0x80) return value;
-    }
-}
-
-static void put_number(u8 *&at, u32 value) {
-    for (; value >= 0x80; value >>= 7) *at++ = static_cast<u8>(value | 0x80);
-    *at++ = static_cast<u8>(value);
-}
-
 void plain::board_fresh(u32 n, u32 *a, u32 *e) {
     std::fill(a, a + (std::size_t{1} << n), 0);
     std::fill(e, e + (std::size_t{1} << n), 0);
@@ -102,25 +89,6 @@ void plain::board_add(u32 n, u32 m, u32 set, u32 weight, u32 *a, u32 *e) {
     for (std::size_t all = set; all < std::size_t{1} << n; all = (all + 1) | set) {
         e[all] = static_cast<u32>((e[all] + u64{weight} * e[all - set]) % m);
     }
-}
-
-u64 plain::header_check(const u8 *bytes, std::size_t) {
-    u64 n = take_number(bytes);
-    return n << 32 | take_number(bytes);
-}
-
-u64 plain::read_table(const u8 *bytes, std::size_t, u32 *table) {
-    u64 n = take_number(bytes), m = take_number(bytes);
-    for (std::size_t i = 0; i < std::size_t{1} << n; i++) table[i] = take_number(bytes);
-    return n << 32 | m;
-}
-
-u64 plain::write_table(u32 n, u32 m, const u32 *table, u8 *buffer) {
-    u8 *at = buffer;
-    put_number(at, n);
-    put_number(at, m);
-    for (std::size_t i = 0; i < std::size_t{1} << n; i++) put_number(at, table[i]);
-    return static_cast<u64>(at - buffer) << 32;
 }
 
 template struct plain::By<plain::Below31>;

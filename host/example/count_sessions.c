@@ -1,18 +1,20 @@
-/* Counts the sessions that the exercises of a table file can be put together to: count_sessions FILE.
+/* Counts the sessions that the exercises of a table file, full or sparse, can be put together to: count_sessions FILE.
  *
  * The table says how many exercises there are for each set of controls. A session uses each control of the panel exactly
  * once, so the number of sessions is the whole panel's entry of the table's exponential. That number outgrows a machine
  * word; what is printed is its residue under several moduli, each by itself. Under the file's modulus also how the sessions
  * divide by their number of exercises, which is the projection of the table that is 1 at the empty set, and of the file's; and
- * how many are left when an exercise is withdrawn, by a board. */
+ * how many are left when an exercise is withdrawn, by a board. Before that, how many bytes the table's file of each kind has. */
 #include <stdio.h>
 #include <stdlib.h>
 
 #include "sps.h"
 
-enum { MOST_BYTES = 6 + 5 * (1 << SPS_MOST_CONTROLS) }; /* of a file */
+enum { MOST_BYTES = 9 + 6 * (1 << SPS_MOST_CONTROLS) }; /* of a file of either kind */
 
-static uint8_t bytes[MOST_BYTES + 1]; /* one more, so that a tail is seen */
+/* Seven bytes more than the longest file, so that the word of a longer one is decided: a count may have five bytes in place of
+ * three, and one gap too many is read to its last byte, the fifth. */
+static uint8_t bytes[MOST_BYTES + 7];
 static uint32_t table[1 << SPS_MOST_CONTROLS];
 
 static void show_set(uint32_t code) {
@@ -38,6 +40,14 @@ static void show_table(uint32_t n) {
         }
     }
     if (shown > most) printf("  and %d sets more\n", shown - most);
+}
+
+/* Writes the table as a file of each kind, and says how long they are. */
+static void show_lengths(uint32_t n, uint32_t m) {
+    const size_t length = SPS_TABLE_LENGTH(n);
+    uint64_t full = sps_write_table(n, m, table, length, bytes, sizeof bytes);
+    uint64_t sparse = sps_write_sparse(n, m, table, length, bytes, sizeof bytes);
+    printf("bytes of a full file %lu, of a sparse file %lu\n", (unsigned long)(full >> 32), (unsigned long)(sparse >> 32));
 }
 
 static void count_sessions(uint32_t n, uint32_t m) {
@@ -137,6 +147,7 @@ int main(int count, char **words) {
     }
     printf("%s: %lu controls, modulus %lu\n", words[1], (unsigned long)n, (unsigned long)m);
     show_table(n);
+    show_lengths(n, m);
     show_sessions(n, m);
     return EXIT_SUCCESS;
 }

@@ -27,7 +27,7 @@
 
 enum {
     SPS_ACCEPTED = 0,
-    SPS_PANEL = 1,    /* n above 16 */
+    SPS_PANEL = 1,    /* n above 16; in a file a first number other than 0 to 16 and 32 to 48 */
     SPS_MODULUS = 2,  /* m below 2; above 4294967295 no uint32_t is */
     SPS_LENGTH = 3,   /* a table not of 2^n entries or a row not of n + 1, input, result or a board's */
     SPS_PAD = 4,      /* a pad shorter than SPS_PAD_LENGTH(n), in a recipe than SPS_RECIPE_PAD_LENGTH(n) */
@@ -40,7 +40,9 @@ enum {
     SPS_EMPTY = 11,   /* a change at the empty set */
     SPS_CODE = 12,    /* a change at a code of 2^n or more */
     SPS_RECIPE = 13,  /* the line of a recipe has more than 120 bytes or is outside the grammar */
-    SPS_NESTING = 14  /* the parentheses of a recipe nest deeper than 8 */
+    SPS_NESTING = 14, /* the parentheses of a recipe nest deeper than 8 */
+    SPS_GAP = 15,     /* a gap in a sparse file leads to code 2^n or beyond */
+    SPS_ZERO = 16     /* a value in a sparse file is 0 */
 };
 
 #define SPS_MOST_CONTROLS 16
@@ -190,24 +192,35 @@ uint32_t sps_recipe(uint32_t n, uint32_t m,
                     uint32_t *pad, size_t pad_len);
 
 /* ---- Table files ---------------------------------------------------------------------------------------------------
- * A file is n, then m, then the 2^n entries in rising code, then nothing.  A number is written in groups of seven bits,
- * lowest group first, one to a byte; the top bit is 1 when another group follows.  Only the shortest form is allowed, and
- * values stay below 2^32.  So 300 is AC 02. */
+ * There are two kinds.  A full file is n, then m, then the 2^n entries in rising code, then nothing.  A sparse file is 32 + n,
+ * then m, then the count of nonzero entries, then for each of these in rising code the gap (the codes skipped since the
+ * previous one, or since the start) and the value, then nothing.  A number is written in groups of seven bits, lowest group
+ * first, one to a byte; the top bit is 1 when another group follows.  Only the shortest form is allowed, and values stay below
+ * 2^32.  So 300 is AC 02.  A full file has at most 6 + 5 * 2^n bytes, a file of either kind at most 9 + 6 * 2^n.  The first byte
+ * of an accepted file tells its kind: below 32 it is full. */
 
-/* n * 2^32 + m of a file whose n and m are in order, else 2^40 * number.  Looks at nothing behind m.  In file order: n
- * (8, then 1), m (8, then 2). */
+/* n * 2^32 + m of a file of either kind whose first number and m are in order, else 2^40 * number.  Looks at nothing behind
+ * m.  In file order: the first number (8, then 1), m (8, then 2). */
 uint64_t sps_header_check(const uint8_t *bytes, size_t len);
 
-/* Fills the table from the whole file and returns as the header check does.  In file order: n (8, then 1), m (8, then 2),
- * the length of the table (3), each entry (8, then 5), the end (9).  Time len. */
+/* Fills the table from the whole file, of either kind, and returns as the header check does.  In file order: the first number
+ * (8, then 1), m (8, then 2), the length of the table (3); in a full file each entry (8, then 5); in a sparse file the count
+ * (8), and of each entry the gap (8, then 15) and the value (8, then 16, then 5); the end (9).  A count too large meets 8 or
+ * 15 as its entries are read, if no other word comes first, and one too small leaves bytes, 9.  Time len, for a sparse file
+ * also 2^n. */
 uint64_t sps_read_table(const uint8_t *bytes, size_t len,
                         uint32_t *table, size_t table_len);
 
-/* Fills the start of the buffer with the file of the table and leaves the bytes behind it unchanged.  Returns bytes written
- * * 2^32 + number.  A file has at most 6 + 5 * 2^n bytes.  Refusals 1, 2, 3, 5, 10.  Time 2^n. */
+/* Fills the start of the buffer with the full file of the table and leaves the bytes behind it unchanged.  Returns bytes
+ * written * 2^32 + number.  Refusals 1, 2, 3, 5, 10.  Time 2^n. */
 uint64_t sps_write_table(uint32_t n, uint32_t m,
                          const uint32_t *table, size_t table_len,
                          uint8_t *buffer, size_t buffer_len);
+
+/* The same with the sparse file of the table.  Returns, refusals and time as for the full file. */
+uint64_t sps_write_sparse(uint32_t n, uint32_t m,
+                          const uint32_t *table, size_t table_len,
+                          uint8_t *buffer, size_t buffer_len);
 
 #ifdef __cplusplus
 }

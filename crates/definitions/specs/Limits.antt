@@ -9,6 +9,10 @@ mostControls = 16
 abbrev pub mostShown : ℕ
 mostShown = 8
 
+-- what the first number of a sparse file has above n
+abbrev pub sparseMark : ℕ
+sparseMark = 32
+
 abbrev pub lowestModulus : ℕ
 lowestModulus = 2
 

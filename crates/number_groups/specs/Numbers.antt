@@ -1,6 +1,8 @@
 -- Laws of numbers in groups of seven bits: what is written reads back, and what reads is what is written.
---   groups-last, groups-more    the groups of a number, by its lowest one
---   reads-back, reads-written   the two laws
+--   groups-last, groups-more, one-long, more-long   the groups of a number by its lowest one, and how many they are
+--   reads-none, reads-last, reads-more, in-front    reading, by the first byte
+--   reads-word                                      a number is refused with word 8 only
+--   reads-back, reads-written                       the two laws
 use mathlib.Core.Path.{_≡_, refl, sym, _∙_, ap, subst}
 use mathlib.Core.Bool.{Bool, true, false, not, _&&_}
 use mathlib.Core.List.{List, [], _∷_, _++_}

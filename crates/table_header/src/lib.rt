@@ -1,15 +1,25 @@
-// The header of a table file, n and then m, in file order: each number 8, then n 1 and m 2.
+// The header of a table file of either kind, in file order: its first number (8, then 1), which is n in a full file and 32 + n
+// in a sparse one, and then m (8, then 2).
 ghost use mathlib.Core.Path.{_≡_};
 ghost use Prim.Native.Nat.{_<_};
-ghost use Rattle.definitions.specs.Files.{controlsOf, readHeader, headerNumber, headerControls, headerModulus, packed};
-ghost use Rattle.table_header.specs.HeaderAnswers.{numberOfAnswer, nOf, mOf, controlsOutcome, openingOutcome, modulusBehind, AnswerIs};
+ghost use Rattle.definitions.specs.Files.{firstOf, readHeader, headerNumber, headerKind, headerControls, headerModulus, packed};
+ghost use Rattle.table_header.specs.HeaderAnswers.{numberOfAnswer, nOf, mOf, firstIs, firstOutcome, openingOutcome, modulusBehind, AnswerIs};
 use checks::MOST_CONTROLS;
 use number_groups::NumberAnswer;
 use number_groups::read_number;
 use residues::Modulus;
 use residues::ModulusAnswer;
 
+// What the first number of a sparse file has above n.
+pub const SPARSE_MARK: u32 = 32;
+
+pub enum Kind {
+    Full,
+    Sparse,
+}
+
 pub struct Header {
+    pub kind: Kind,
     pub n: u32,
     pub m: u32,
 }
@@ -17,17 +27,24 @@ pub struct Header {
 // What header check and reader answer.
 pub enum HeaderAnswer {
     Header(Header),
-    // 01's number of the refusal
+    // the number of the refusal
     Refused(u32),
 }
 
-pub enum ControlsAnswer {
-    Controls(u32),
+// What the first number of a file says.
+pub struct First {
+    pub kind: Kind,
+    pub n: u32,
+}
+
+pub enum FirstAnswer {
+    First(First),
     Refused(u32),
 }
 
 // A header, and the place behind it.
 pub struct Opening {
+    pub kind: Kind,
     pub n: u32,
     pub m: u32,
     pub next: usize,
@@ -38,27 +55,41 @@ pub enum OpeningAnswer {
     Refused(u32),
 }
 
-// How the first number of a file becomes n.
-pub fn controls_of(most: u32, value: u32) -> ControlsAnswer
-    ensures { λ r. ⌜ controlsOutcome r ≡ controlsOf most value ⌝ }
+// How the first number of a file becomes a kind and n.
+pub fn first_of(most: u32, value: u32) -> FirstAnswer
+    ensures { λ r. ⌜ firstOutcome r ≡ firstOf most value ⌝ }
 {
-    if most < value {
-        ControlsAnswer::Refused(1)
-    } else {
-        ControlsAnswer::Controls(value)
+    if value < SPARSE_MARK {
+        if most < value {
+            return FirstAnswer::Refused(1);
+        }
+        return FirstAnswer::First(First {
+            kind: Kind::Full,
+            n: value,
+        });
     }
+    let n = value - SPARSE_MARK;
+    if most < n {
+        return FirstAnswer::Refused(1);
+    }
+    FirstAnswer::First(First {
+        kind: Kind::Sparse,
+        n: n,
+    })
 }
 
-// m at a place, behind n.
-fn read_modulus(n: u32, bytes: &[u8], at: usize) -> OpeningAnswer
-    ensures { λ r. ⌜ openingOutcome (now (bytes .entry)) r ≡ modulusBehind n (now (bytes .entry)) at ⌝ }
+// m at a place, behind the first number.
+fn read_modulus(first: First, bytes: &[u8], at: usize) -> OpeningAnswer
+    ensures { λ r. ⌜ openingOutcome (now (bytes .entry)) r ≡ modulusBehind (firstIs first) (now (bytes .entry)) at ⌝ }
 {
+    let kind = first.kind;
     match read_number(bytes, at) {
         NumberAnswer::Number(second) => {
             let m = second.value;
             match Modulus::new(m) {
                 ModulusAnswer::Modulus(_) => OpeningAnswer::Opening(Opening {
-                    n: n,
+                    kind: kind,
+                    n: first.n,
                     m: m,
                     next: second.next,
                 }),
@@ -74,23 +105,27 @@ pub fn read_opening(most: u32, bytes: &[u8]) -> OpeningAnswer
     ensures { λ r. ⌜ openingOutcome (now (bytes .entry)) r ≡ readHeader most (now (bytes .entry)) ⌝ }
 {
     match read_number(bytes, 0) {
-        NumberAnswer::Number(first) => match controls_of(most, first.value) {
-            ControlsAnswer::Controls(n) => read_modulus(n, bytes, first.next),
-            ControlsAnswer::Refused(word) => OpeningAnswer::Refused(word),
+        NumberAnswer::Number(number) => match first_of(most, number.value) {
+            FirstAnswer::First(first) => read_modulus(first, bytes, number.next),
+            FirstAnswer::Refused(word) => OpeningAnswer::Refused(word),
         },
         NumberAnswer::Refused(word) => OpeningAnswer::Refused(word),
     }
 }
 
-// The header check: what the start of some bytes says of n and m. It looks at nothing behind m.
+// The header check: what the start of some bytes says of kind, n and m. It looks at nothing behind m.
 pub fn header_check(bytes: &[u8]) -> HeaderAnswer
-    ensures { λ r. ⌜ AnswerIs (headerNumber (now (bytes .entry))) (headerControls (now (bytes .entry))) (headerModulus (now (bytes .entry))) r ⌝ }
+    ensures { λ r. ⌜ AnswerIs (headerNumber (now (bytes .entry))) (headerKind (now (bytes .entry))) (headerControls (now (bytes .entry))) (headerModulus (now (bytes .entry))) r ⌝ }
 {
     match read_opening(MOST_CONTROLS, bytes) {
-        OpeningAnswer::Opening(opening) => HeaderAnswer::Header(Header {
-            n: opening.n,
-            m: opening.m,
-        }),
+        OpeningAnswer::Opening(opening) => {
+            let kind = opening.kind;
+            HeaderAnswer::Header(Header {
+                kind: kind,
+                n: opening.n,
+                m: opening.m,
+            })
+        }
         OpeningAnswer::Refused(word) => HeaderAnswer::Refused(word),
     }
 }

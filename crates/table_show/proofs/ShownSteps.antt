@@ -1,46 +1,55 @@
 -- The steps of showing a file.
 use mathlib.Core.Path.{_≡_, sym, _∙_, ap}
 use mathlib.Core.List.{List, [], _∷_, _++_}
-use Prim.Native.Nat.{ℕ, _+_, _^_, _≤_}
+use Prim.Native.Nat.{ℕ, _^_, _≤_}
 use native.Mathlib.Omega.{arith}
 use lib.ListN.{length, drop, take}
 use lib.Pow.{pow-mono}
 use lib.Seq.{length-take-le}
 use Rattle.definitions.specs.Limits.{mostShown}
 use Rattle.definitions.specs.Outcomes.{Outcome, accepted, refused, andThen, numberOf}
-use Rattle.definitions.specs.Files.{Header, readHeader, readBody}
+use Rattle.definitions.specs.Files.{Header, readHeader, readContents, readBody}
 use Rattle.definitions.specs.Show.{tableText, refusalText, readShown, textOf, shown, line}
 use Rattle.number_groups.specs.Stores.{sets-front}
+use Rattle.number_groups.specs.NumberAnswers.{Accepts}
 use Rattle.table_header.specs.HeaderAnswers.{openingOutcome}
-use Rattle.table_header.specs.Words.{accepts, refuses}
+use Rattle.table_header.specs.Words.{refuses}
 use Rattle.table_header.specs.Headers.{header-few}
 use Rattle.table_header.specs.declared.OpeningAnswer.the-variants as opening
-use Rattle.table_file.specs.Entries.{entriesToEnd, numbersFrom, headerAt}
-use Rattle.table_file.specs.Words.{proper-body}
-use Rattle.table_file.specs.Reading.{body-number, body-table, fileRead, length-numbers}
+use Rattle.table_file.specs.Entries.{contentsNumber, headerAt}
+use Rattle.table_file.specs.Reading.{body-number, BodyRead, body-accepted}
+use Rattle.sparse_file.specs.Pairs.{Fills}
 use Rattle.table_show.specs.Text.{Writes, Shows, headedText, linesTo, longestText, TableFits}
 use Rattle.table_show.specs.TextLaws.{writes-length}
 
 -- ---- behind a header
 
-module _ (h : Header) {long word : ℕ} (as-long : long ≡ 2 ^ h .controls) (tested : word ≡ numberOf (entriesToEnd long (h .modulus) (h .rest))) where
+module _ (h : Header) {long word : ℕ} (as-long : long ≡ 2 ^ h .controls) (tested : word ≡ contentsNumber (h .kind) long (h .modulus) (h .rest)) where
   body-word : word ≡ numberOf (readBody h)
-  body-word = tested ∙ ap (λ (k : ℕ). numberOf (entriesToEnd k (h .modulus) (h .rest))) as-long ∙ sym (body-number h)
+  body-word = tested ∙ ap (λ (k : ℕ). contentsNumber (h .kind) k (h .modulus) (h .rest)) as-long ∙ sym (body-number h)
 
   pub refused-text : (word ≡ 0 → ⊥) → refusalText word ≡ textOf (readBody h)
   refused-text d =
       ap textOf (ap refused body-word ∙ sym (refuses (readBody h) (λ z. d (body-word ∙ z))))
 
-  pub file-text : word ≡ 0 → {table : List ℕ} → table ≡ numbersFrom long (h .rest) → headedText (h .controls) (h .modulus) table ≡ textOf (readBody h)
-  unfolding tableText
-  file-text z {table} e =
-      let a = accepts (readBody h) (proper-body h) (sym body-word ∙ z) in
-      let outcome : readBody h ≡ accepted (fileRead h) = a .1 ∙ ap accepted (sym (body-table h (a .0) (a .1))) in
-      let entries : table ≡ numbersFrom (2 ^ h .controls) (h .rest) = e ∙ ap (λ (k : ℕ). numbersFrom k (h .rest)) as-long in
-      let size : length table ≡ 2 ^ h .controls = ap length entries ∙ length-numbers (2 ^ h .controls) (h .rest) in
-      ap (λ (k : ℕ). line (h .controls) (h .modulus ∷ []) ++ linesTo table k) size
-      ∙ ap (λ (l : List ℕ). line (h .controls) (h .modulus ∷ []) ++ linesTo l (2 ^ h .controls)) entries
-      ∙ ap textOf (sym outcome)
+  module _ (z : word ≡ 0) where
+    body : BodyRead h
+    body = body-accepted h (sym body-word ∙ z)
+
+    contents-at : readContents (h .kind) long (h .modulus) (h .rest) ≡ accepted (body .contents)
+    contents-at = ap (λ (k : ℕ). readContents (h .kind) k (h .modulus) (h .rest)) as-long ∙ body .read
+
+    pub contents-stand : Accepts (readContents (h .kind) long (h .modulus) (h .rest))
+    contents-stand = (body .contents, contents-at)
+
+    -- the lent table has its length still
+    pub file-text : {table : List ℕ} → length table ≡ long → Fills (readContents (h .kind) long (h .modulus) (h .rest)) table →
+        headedText (h .controls) (h .modulus) table ≡ textOf (readBody h)
+    unfolding tableText
+    file-text {table} size f =
+        ap (λ (k : ℕ). line (h .controls) (h .modulus ∷ []) ++ linesTo table k) (size ∙ as-long)
+        ∙ ap (λ (l : List ℕ). line (h .controls) (h .modulus ∷ []) ++ linesTo l (2 ^ h .controls)) (f .fills (body .contents) contents-at)
+        ∙ ap textOf (sym (body .outcome))
 
 -- at most 256 entries
 pub few-entries : {n : ℕ} → n ≤ mostShown → 2 ^ n ≤ 256

@@ -1,5 +1,6 @@
--- What `panelshow` prints is decided by the start of its input: a number has at most five groups, so n, m, at most 256 entries and
--- one byte behind them lie within the first 1,291 bytes.
+-- What `panelshow` prints is decided by the start of its input: a number has at most five groups, so a header, at most 256 entries
+-- and one byte behind them lie within the first 1,291 bytes of a full file. In a sparse one header, count, 256 entries of two
+-- numbers and the gap that leads beyond them lie within 2,580.
 --   shown-start   the statement
 use mathlib.Core.Path.{_≡_, refl, sym, _∙_, ap}
 use mathlib.Core.Bool.{true, not, _&&_}
@@ -7,7 +8,7 @@ use mathlib.Core.List.{List, [], _∷_, _++_}
 use mathlib.Core.Logic.{_⊎_, inl, inr, ⊎-elim}
 use Prim.Native.Nat.{ℕ, zero, suc, _+_, _-_, _*_, _^_, _<_, _≤_}
 use native.Mathlib.Omega.{arith}
-use lib.Dec.{ltb, eqb·suc-zero}
+use lib.Dec.{ltb, eqb, eqb·suc-zero}
 use lib.ListN.{length, take, drop, take-append-drop}
 use lib.Pow.{pow-mono}
 use borrow.Author.Tests.{ltb-true, not-false}
@@ -15,13 +16,15 @@ use Rattle.definitions.specs.Limits.{mostShown}
 use Rattle.definitions.specs.Outcomes.{Outcome, accepted, refused, andThen, unless}
 use Rattle.definitions.specs.Refusals.{wordIf, modulusWord}
 use Rattle.definitions.specs.Groups.{Numeral, inFront, readNumber}
-use Rattle.definitions.specs.Files.{Header, Entries, controlsOf, readHeader, readEntries, readBody, tailWord}
+use Rattle.definitions.specs.Files.{Kind, full, sparse, First, Header, Entries, Pair, firstOf, readHeader, readEntries, leadsOn, counts, readGap, readValue, readPair, readPairs, zeros, readContents, readBody, tailWord}
 use Rattle.definitions.specs.Show.{readShown, shown, textOf}
 use Rattle.theory.specs.Tests.{below-or, and-true-left, and-true-right, zero-is-not-one}
 use Rattle.checks.specs.Words.{no-word}
 use Rattle.number_groups.specs.Numbers.{reads-none, reads-last, reads-more, reads-word, in-front}
+use Rattle.table_header.specs.HeaderAnswers.{withModulus}
 use Rattle.table_header.specs.Words.{passed, passed-test}
 use Rattle.table_header.specs.Headers.{header-few}
+use Rattle.sparse_file.specs.PairLaws.{otherPairs}
 
 -- ---- a number
 
@@ -158,8 +161,11 @@ unless-same (suc w) s = inr refl
 abbrev cutNumber : ℕ → Numeral → Numeral
 cutNumber left x = record { value = x .value; rest = take left (x .rest) }
 
+abbrev cutPair : ℕ → Pair → Pair
+cutPair left p = record { gap = p .gap; value = p .value; rest = take left (p .rest) }
+
 abbrev cutHeader : ℕ → Header → Header
-cutHeader left h = record { controls = h .controls; modulus = h .modulus; rest = take left (h .rest) }
+cutHeader left h = record { kind = h .kind; controls = h .controls; modulus = h .modulus; rest = take left (h .rest) }
 
 abbrev cutEntries : ℕ → Entries → Entries
 cutEntries left x = record { entries = x .entries; rest = take left (x .rest) }
@@ -183,18 +189,18 @@ number-start k bs h = number-by k bs (readNumber (take k bs)) (readNumber bs) re
 header-start : (most k : ℕ) (bs : List ℕ) → 10 ≤ k → Same cutHeader 10 k (readHeader most (take k bs)) (readHeader most bs)
 unfolding readHeader
 header-start most k bs h =
-    then-same _ (number-start k bs (omega arith)) (λ first left l.
-    controlled (controlsOf most (first .value)) first left l)
+    then-same _ (number-start k bs (omega arith)) (λ v left l.
+    said (firstOf most (v .value)) v left l)
   where
-    controlled : (o : Outcome ℕ) (first : Numeral) (left : ℕ) → k ≤ left + 5 →
+    said : (o : Outcome First) (v : Numeral) (left : ℕ) → k ≤ left + 5 →
         Same cutHeader 10 k
-        (andThen o (λ n. andThen (readNumber (take left (first .rest))) (λ second. unless (modulusWord (second .value)) (accepted (record { controls = n; modulus = second .value; rest = second .rest })))))
-        (andThen o (λ n. andThen (readNumber (first .rest)) (λ second. unless (modulusWord (second .value)) (accepted (record { controls = n; modulus = second .value; rest = second .rest })))))
-    controlled (refused w) first left l = inr refl
-    controlled (accepted n) first left l =
-        then-same _ (number-start left (first .rest) (omega arith)) (λ second rest m.
+        (andThen o (λ f. andThen (readNumber (take left (v .rest))) (withModulus f)))
+        (andThen o (λ f. andThen (readNumber (v .rest)) (withModulus f)))
+    said (refused w) v left l = inr refl
+    said (accepted f) v left l =
+        then-same _ (number-start left (v .rest) (omega arith)) (λ second rest m.
         unless-same (modulusWord (second .value)) (inl (record {
-          value = record { controls = n; modulus = second .value; rest = second .rest };
+          value = record { kind = f .kind; controls = f .controls; modulus = second .value; rest = second .rest };
           left = rest;
           enough = omega arith;
           start = refl;
@@ -216,6 +222,85 @@ entries-start (suc c) m k bs h =
       whole = refl;
     }))))
 
+-- ---- sparse entries
+
+gap-start : (left k : ℕ) (bs : List ℕ) → 5 ≤ k → Same cutNumber 5 k (readGap left (take k bs)) (readGap left bs)
+unfolding readGap
+gap-start left k bs h =
+    then-same (leadsOn left) (number-start k bs h) (λ x rest l.
+    unless-same (wordIf (not (ltb (x .value) left)) 15) (inl (record { value = x; left = rest; enough = l; start = refl; whole = refl })))
+
+value-start : (m k : ℕ) (bs : List ℕ) → 5 ≤ k → Same cutNumber 5 k (readValue m (take k bs)) (readValue m bs)
+unfolding readValue
+value-start m k bs h =
+    then-same (counts m) (number-start k bs h) (λ x rest l.
+    unless-same (wordIf (eqb (x .value) 0) 16)
+    (unless-same (wordIf (not (ltb (x .value) m)) 5) (inl (record { value = x; left = rest; enough = l; start = refl; whole = refl }))))
+
+pair-start : (left m k : ℕ) (bs : List ℕ) → 10 ≤ k → Same cutPair 10 k (readPair left m (take k bs)) (readPair left m bs)
+unfolding readPair
+pair-start left m k bs h =
+    then-same _ (gap-start left k bs (omega arith)) (λ gap rest l.
+    then-same _ (value-start m rest (gap .rest) (omega arith)) (λ x last l2.
+    inl (record {
+      value = record { gap = gap .value; value = x .value; rest = x .rest };
+      left = last;
+      enough = omega arith;
+      start = refl;
+      whole = refl;
+    })))
+
+-- no code is left: a gap is read, and nothing behind it
+no-code : (bs : List ℕ) (gap : Numeral) → readGap 0 bs ≡ accepted gap → ⊥
+unfolding readGap
+no-code bs gap e =
+    let one = passed (readNumber bs) (leadsOn 0) gap e in
+    let two = passed-test (wordIf (not (ltb (one .value .value) 0)) 15) (accepted (one .value)) gap (one .then) in
+    let t : ltb (one .value .value) 0 ≡ true = not-false (ltb (one .value .value) 0) (no-word (not (ltb (one .value .value) 0)) 15 (λ z. omega arith) (two .none)) in
+    omega (arith, ltb-true (one .value .value) 0 t)
+
+abbrev withGap : ℕ → Numeral → Outcome Pair
+withGap m gap = andThen (readValue m (gap .rest)) (λ x. accepted (record { gap = gap .value; value = x .value; rest = x .rest }))
+
+last-gap : (m k : ℕ) (bs : List ℕ) → 5 ≤ k → readPair 0 m (take k bs) ≡ readPair 0 m bs
+unfolding readPair
+last-gap m k bs h = ⊎-elim
+    (λ (c : Cut cutNumber 5 k (readGap 0 (take k bs)) (readGap 0 bs)). absurd (no-code bs (c .value) (c .whole)))
+    (λ (e : readGap 0 (take k bs) ≡ readGap 0 bs). ap (λ (o : Outcome Numeral). andThen o (withGap m)) e)
+    (gap-start 0 k bs h)
+
+pairs-start : (c left m k : ℕ) (bs : List ℕ) → 10 * left + 5 ≤ k → Same cutEntries (10 * left) k (readPairs c left m (take k bs)) (readPairs c left m bs)
+unfolding readPairs
+pairs-start zero left m k bs h = inl (record { value = record { entries = zeros left; rest = bs }; left = k; enough = omega arith; start = refl; whole = refl })
+pairs-start (suc c) zero m k bs h = inr (ap (λ (o : Outcome Pair). andThen o (otherPairs c 0 m)) (last-gap m k bs (omega arith)))
+pairs-start (suc c) (suc l) m k bs h =
+    then-same _ (pair-start (suc l) m k bs (omega arith)) (λ p rest d.
+    then-same _ (pairs-start c (suc l - (p .gap + 1)) m rest (p .rest) (omega arith)) (λ x last d2.
+    inl (record {
+      value = record { entries = zeros (p .gap) ++ (p .value ∷ x .entries); rest = x .rest };
+      left = last;
+      enough = omega arith;
+      start = refl;
+      whole = refl;
+    })))
+
+-- ---- the entries of either kind
+
+more-room : {X : Type 0} {cut : ℕ → X → X} {i j k : ℕ} {o p : Outcome X} → i ≤ j → Same cut i k o p → Same cut j k o p
+more-room h (inl c) = inl (record { value = c .value; left = c .left; enough = omega (arith, c .enough); start = c .start; whole = c .whole })
+more-room h (inr e) = inr e
+
+contents-start : (kind : Kind) (long m k : ℕ) (bs : List ℕ) → 10 * long + 10 ≤ k →
+    Same cutEntries (10 * long + 5) k (readContents kind long m (take k bs)) (readContents kind long m bs)
+contents-start full long m k bs h = more-room (omega arith) (entries-start long m k bs (omega arith))
+contents-start sparse long m k bs h =
+    then-same _ (number-start k bs (omega arith)) (λ count rest l.
+    then-more (pairs-start (count .value) long m rest (count .rest) (omega arith)) l)
+  where
+    then-more : {rest : ℕ} {o p : Outcome Entries} → Same cutEntries (10 * long) rest o p → k ≤ rest + 5 → Same cutEntries (10 * long + 5) k o p
+    then-more (inl c) l = inl (record { value = c .value; left = c .left; enough = omega (arith, c .enough); start = c .start; whole = c .whole })
+    then-more (inr e) l = inr e
+
 -- ---- the end
 
 tail-start : (left : ℕ) (rest : List ℕ) → 0 < left → tailWord (take left rest) ≡ tailWord rest
@@ -223,14 +308,14 @@ tail-start zero rest h = absurd (omega arith)
 tail-start (suc left) [] h = refl
 tail-start (suc left) (x ∷ rest) h = rw (eqb·suc-zero (length (take left rest)), eqb·suc-zero (length rest))
 
-body-start : (h : Header) (left : ℕ) → 5 * 2 ^ h .controls < left → readBody (cutHeader left h) ≡ readBody h
+body-start : (h : Header) (left : ℕ) → 10 * 2 ^ h .controls + 10 ≤ left → readBody (cutHeader left h) ≡ readBody h
 body-start h left l =
-    then-equal _ (entries-start (2 ^ h .controls) (h .modulus) left (h .rest) (omega arith)) (λ x rest m.
-    ap (λ (w : ℕ). unless w (accepted (record { controls = h .controls; modulus = h .modulus; entries = x .entries })))
+    then-equal _ (contents-start (h .kind) (2 ^ h .controls) (h .modulus) left (h .rest) l) (λ x rest m.
+    ap (λ (w : ℕ). unless w (accepted (record { kind = h .kind; controls = h .controls; modulus = h .modulus; entries = x .entries })))
     (tail-start rest (x .rest) (omega arith)))
 
 -- so many bytes decide what is printed
-pub shown-start : (k : ℕ) (bytes : List ℕ) → 1291 ≤ k → shown (take k bytes) ≡ shown bytes
+pub shown-start : (k : ℕ) (bytes : List ℕ) → 2580 ≤ k → shown (take k bytes) ≡ shown bytes
 unfolding readShown
 shown-start k bytes l = ap textOf (by-header (readHeader mostShown (take k bytes)) (readHeader mostShown bytes) (header-start mostShown k bytes (omega arith)) (λ h e. header-few mostShown bytes h e))
   where

@@ -1,4 +1,4 @@
-// A table file of at most 8 controls as text.
+// A table file of either kind, of at most 8 controls, as text.
 ghost use mathlib.Core.Path.{_≡_};
 ghost use Prim.Native.Nat.{_^_, _≤_};
 ghost use lib.ListN.{length, replicate};
@@ -13,8 +13,8 @@ use crate::text::write_table_text;
 use checks::power;
 use table_file::Opening;
 use table_file::OpeningAnswer;
-use table_file::entries_word;
-use table_file::fill_table;
+use table_file::body_word;
+use table_file::fill_body;
 use table_file::read_opening;
 
 // The most controls that are shown.
@@ -27,11 +27,11 @@ fn show_table(opening: Opening, bytes: &[u8], table: &mut [u32], out: &mut [u8])
     requires { ⌜ longestText ≤ length (now out) ⌝ }
     ensures { λ r. ⌜ Writes (now (out .entry)) 0 (textOf (readBody (headerAt (now (bytes .entry)) opening))) r (now (out .exit)) ⌝ }
 {
-    let word = entries_word(opening.m, table.len(), bytes, opening.next);
+    let word = body_word(opening, bytes, table.len());
     if word != 0 {
         return write_refusal(word, out);
     }
-    fill_table(bytes, opening.next, table);
+    fill_body(opening, bytes, table);
     write_table_text(opening.n, opening.m, table, out)
 }
 

@@ -1,27 +1,23 @@
--- The steps of writing a table file: its length, its entries, the whole.
-use mathlib.Core.Path.{_≡_, sym, _∙_, ap, subst}
-use mathlib.Core.Bool.{true, false}
-use mathlib.Core.List.{List, [], _∷_, _++_, flatMap}
+-- The steps of writing a full file: its length, its entries, the whole.
+use mathlib.Core.Path.{_≡_, sym, _∙_, ap}
+use mathlib.Core.List.{List, [], _++_, flatMap}
 use Prim.Native.Nat.{ℕ, _+_, _*_, _^_, _<_, _≤_}
 use native.Mathlib.Numerals.{add-one}
 use native.Mathlib.Omega.{arith}
-use lib.Dec.{ltb}
 use lib.ListN.{length, drop, getD, length-append, drop-of-length-le}
 use lib.Pow.{pow-mono}
 use lib.Seq.{sets, drop-cons, length-sets}
-use borrow.Author.Tests.{lt-ltb, le-ltb}
 use Rattle.definitions.specs.Groups.{groups}
 use Rattle.definitions.specs.Limits.{mostControls}
-use Rattle.definitions.specs.Files.{fileOf, writerNumber}
-use Rattle.definitions.specs.Refusals.{orElse, panelWord, modulusWord}
-use Rattle.checks.specs.Words.{orElse-go, orElse-stop, one-more-word}
-use Rattle.checks.specs.Accepted.{tableWords, tableNumber, table-accepted}
-use Rattle.checks.specs.Answers.{IsChecked, accepted, refused, not-accepted, kept, no-value}
+use Rattle.definitions.specs.Files.{full, fileOf, writerNumber}
+use Rattle.checks.specs.Accepted.{tableNumber, table-accepted}
+use Rattle.checks.specs.Answers.{IsChecked, accepted, refused}
 use Rattle.checks.specs.declared.Checked.{Checked}
 use Rattle.checks.specs.declared.Checked.the-variants as checked
-use Rattle.number_groups.specs.Stores.{sets-append, sets-front}
-use Rattle.table_writer.specs.Writing.{shortWord, WrittenBy}
-use Rattle.table_writer.specs.declared.writer.Written.{Written}
+use Rattle.number_groups.specs.Stores.{sets-append}
+use Rattle.table_writer.specs.Writing.{refusedWith, shortWord, WrittenBy}
+use Rattle.table_writer.specs.WritingLaws.{accepted-write, refused-write}
+use Rattle.table_writer.specs.declared.Written.{Written}
 
 -- the entries from a place on
 abbrev pub entriesFrom : List ℕ → ℕ → List ℕ
@@ -45,7 +41,7 @@ module _ (a : List ℕ) (i : ℕ) where
 pub record Counted (n m : ℕ) (a : List ℕ) (count i : ℕ) : Type 0 where
   pub few : count ≤ 10 + 5 * i
   pub inside : i ≤ length a
-  pub counts : count + length (entriesFrom a i) ≡ length (fileOf n m a)
+  pub counts : count + length (entriesFrom a i) ≡ length (fileOf full n m a)
 
 pub header-counted : (n m : ℕ) (a : List ℕ) {j k : ℕ} → (j ≡ length (groups n)) × (j ≤ 5) → (k ≡ length (groups m)) × (k ≤ 5) → Counted n m a (j + k) 0
 unfolding fileOf
@@ -63,7 +59,7 @@ module _ (n m : ℕ) (a : List ℕ) (count i : ℕ) (counted : Counted n m a cou
     counts = omega (arith, p .0, counted .counts, entry-length a i h);
   }
 
-  pub all-counted : length a ≤ i → count ≡ length (fileOf n m a)
+  pub all-counted : length a ≤ i → count ≡ length (fileOf full n m a)
   all-counted h = omega (arith, counted .counts, ap length (no-entry a i h))
 
 -- ---- the entries
@@ -94,14 +90,14 @@ module _ (a : List ℕ) (at : ℕ) (old buffer : List ℕ) (place i : ℕ) (left
 
 -- ---- the file
 
-pub file-length : (n m : ℕ) (a : List ℕ) → length (fileOf n m a) ≡ length (groups n) + (length (groups m) + length (flatMap groups a))
+pub file-length : (n m : ℕ) (a : List ℕ) → length (fileOf full n m a) ≡ length (groups n) + (length (groups m) + length (flatMap groups a))
 unfolding fileOf
 file-length n m a = omega (arith, length-append (groups n) (groups m ++ flatMap groups a), length-append (groups m) (flatMap groups a))
 
 module _ (n m : ℕ) (a old : List ℕ) where
   pub file-written : {second third : ℕ} {one two last : List ℕ} → second ≡ 0 + length (groups n) → one ≡ sets old 0 (groups n) →
       third ≡ second + length (groups m) → two ≡ sets one second (groups m) → last ≡ sets two third (flatMap groups a) →
-      last ≡ sets old 0 (fileOf n m a)
+      last ≡ sets old 0 (fileOf full n m a)
   unfolding fileOf
   file-written {second} {third} {one} {two} p f q g e =
       let behind : sets two third (flatMap groups a) ≡ sets one second (groups m ++ flatMap groups a) =
@@ -110,27 +106,9 @@ module _ (n m : ℕ) (a old : List ℕ) where
       rw (p, f) (sym (sets-append old 0 (groups n) (groups m ++ flatMap groups a))) in
       e ∙ behind ∙ all
 
-  -- ---- the buffer
-
-  pub too-short : {count : ℕ} → count ≡ length (fileOf n m a) → length old < count →
-      WrittenBy n m a (shortWord n m a (length old)) old (record { number = 10; count = 0 }) old
-  too-short e h =
-      let t : ltb (length old) (length (fileOf n m a)) ≡ true = lt-ltb (length old) (length (fileOf n m a)) (omega arith) in
-      record { number-is = rw t; count-is = rw t; buffer-is = rw t }
-
-  pub long-enough : {count : ℕ} {last : List ℕ} → count ≡ length (fileOf n m a) → count ≤ length old → last ≡ sets old 0 (fileOf n m a) →
-      WrittenBy n m a (shortWord n m a (length old)) old (record { number = 0; count = count }) last
-  long-enough e h f =
-      let t : ltb (length old) (length (fileOf n m a)) ≡ false = le-ltb (length old) (length (fileOf n m a)) (omega arith) in
-      record { number-is = rw t; count-is = rw t e; buffer-is = rw t (f ∙ sets-front old (fileOf n m a) (omega arith)) }
-
 -- ---- the call
 
 module _ (n m : ℕ) (a old : List ℕ) where
-  pub by-tests : writerNumber n m a (length old) ≡ orElse (tableNumber n m a) (shortWord n m a (length old))
-  unfolding writerNumber
-  by-tests = one-more-word (panelWord n ∷ modulusWord m ∷ tableWords n m a) (shortWord n m a (length old))
-
   module _ {r : Checked} (tests : IsChecked m (tableNumber n m a) r) where
     pub few-entries : {modulus : _} → r ≡ checked.Accepted modulus → length a ≤ 2 ^ mostControls
     few-entries e =
@@ -138,16 +116,9 @@ module _ (n m : ℕ) (a old : List ℕ) where
         omega (arith, t .1 .size, pow-mono (t .0 .few))
 
     pub as-written : {modulus : _} → r ≡ checked.Accepted modulus → {w : Written} {buffer : List ℕ} →
-        WrittenBy n m a (shortWord n m a (length old)) old w buffer → WrittenBy n m a (writerNumber n m a (length old)) old w buffer
-    as-written e {w} {buffer} h =
-        subst (λ (k : ℕ). WrittenBy n m a k old w buffer) (sym (by-tests ∙ orElse-go _ (shortWord n m a (length old)) (accepted tests e))) h
+        WrittenBy full n m a (shortWord full n m a (length old)) old w buffer → WrittenBy full n m a (writerNumber full n m a (length old)) old w buffer
+    as-written e h = accepted-write full n m a old (accepted tests e) h
 
     pub as-refused : {word : ℕ} → r ≡ checked.Refused word →
-        WrittenBy n m a (writerNumber n m a (length old)) old (record { number = word; count = 0 }) old
-    as-refused {word} e =
-        let same : writerNumber n m a (length old) ≡ tableNumber n m a = by-tests ∙ orElse-stop _ (shortWord n m a (length old)) (not-accepted tests e) in
-        rw same (record {
-          number-is = refused tests e;
-          count-is = no-value tests e (length (fileOf n m a));
-          buffer-is = kept tests e (fileOf n m a ++ drop (length (fileOf n m a)) old) old;
-        })
+        WrittenBy full n m a (writerNumber full n m a (length old)) old (refusedWith word) old
+    as-refused e = refused-write full n m a old (refused tests e) (tests .word _ e)

@@ -25,3 +25,4 @@ pub mod Passes
 pub mod PassLoops
 pub mod Convolution
 pub mod Partitions
+pub mod Gaps

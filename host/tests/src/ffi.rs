@@ -37,6 +37,8 @@ mod raw {
         pub fn sps_read_table(bytes: *const u8, len: usize, table: *mut u32, table_len: usize) -> u64;
         pub fn sps_write_table(n: u32, m: u32, table: *const u32, table_len: usize,
             buffer: *mut u8, buffer_len: usize) -> u64;
+        pub fn sps_write_sparse(n: u32, m: u32, table: *const u32, table_len: usize,
+            buffer: *mut u8, buffer_len: usize) -> u64;
     }
 }
 
@@ -114,4 +116,9 @@ pub fn read_table(bytes: &[u8], table: &mut [u32]) -> u64 {
 pub fn write_table(n: u32, m: u32, table: &[u32], buffer: &mut [u8]) -> u64 {
     // Sound: as above.
     unsafe { raw::sps_write_table(n, m, table.as_ptr(), table.len(), buffer.as_mut_ptr(), buffer.len()) }
+}
+
+pub fn write_sparse(n: u32, m: u32, table: &[u32], buffer: &mut [u8]) -> u64 {
+    // Sound: as above.
+    unsafe { raw::sps_write_sparse(n, m, table.as_ptr(), table.len(), buffer.as_mut_ptr(), buffer.len()) }
 }

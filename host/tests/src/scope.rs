@@ -197,3 +197,18 @@ fn edges_of_the_reader() {
     assert_eq!(ffi::read_table(&entry(0xff), &mut table[..1]), 5 << 40);
     assert_eq!(*table, [4_294_967_294, 3, 0, 5]);
 }
+
+/// First numbers 0 to 16 are full files and 32 to 48 sparse ones; all others are refused (1). A gap to code 2^n − 1 is
+/// accepted, to 2^n refused (15); value m − 1 accepted, 0 (16) and m (5) refused.
+#[test]
+fn edges_of_sparse_files() {
+    let header = |first| ffi::header_check(&[first, 7]);
+    assert_eq!([16, 17, 31, 32, 48, 49].map(header), [16 << 32 | 7, 1 << 40, 1 << 40, 7, 16 << 32 | 7, 1 << 40]);
+    let table = &mut [9; 4];
+    for (gap, value, word) in [(4, 6, 15), (3, 0, 16), (3, 7, 5)] {
+        assert_eq!(ffi::read_table(&[34, 7, 1, gap, value], table), word << 40);
+        assert_eq!(*table, [9; 4]);
+    }
+    assert_eq!(ffi::read_table(&[34, 7, 1, 3, 6], table), 2 << 32 | 7);
+    assert_eq!(*table, [0, 0, 0, 6]);
+}

@@ -1,6 +1,6 @@
 use mathlib.Core.Path.{refl}
 use native.Mathlib.Omega.{arith}
-use Rattle.number_groups.proofs.GroupSteps.{no-group, one-group, more-groups}
+use Rattle.number_groups.proofs.GroupSteps.{is-group, no-group, one-group, more-groups}
 use borrow.Author.Needs.{needs}
 use Rattle.number_groups.proofs.read_number.Statement.{statement}
 use Rattle.number_groups.proofs.read_number.Tie as tie
@@ -18,7 +18,7 @@ cast-t9 : tie.Need-cast-t9
 cast-t9 c = search needs
 
 returns-2 : tie.Need-returns-2
-returns-2 c = one-group _ _ (c .before .before .if1 .left) refl (c .if2 .taken)
+returns-2 c = one-group _ _ (c .before .before .if1 .left) (is-group refl (omega arith)) (c .if2 .taken)
 
 wide-requires : tie.Need-wide-requires
 wide-requires c κs = search needs
@@ -30,7 +30,7 @@ read-groups-requires : tie.Need-read-groups-requires
 read-groups-requires c κs = search needs
 
 returns-3 : tie.Need-returns-3
-returns-3 c = more-groups _ _ (c .before .before .before .before .if1 .left) (c .before .wide .ensures .0) (omega arith) (c .read-groups .ensures)
+returns-3 c = more-groups _ _ (c .before .before .before .before .if1 .left) (is-group (c .before .wide .ensures .0) (c .before .wide .ensures .1)) (omega arith) (c .read-groups .ensures)
 
 pub read-number-spec : {M : Type 1} → statement M
 read-number-spec =

@@ -1,0 +1,5 @@
+pub mod Parts
+pub mod FullEntries
+pub mod SparseEntries
+pub mod RoundTrip
+pub mod Lengths
