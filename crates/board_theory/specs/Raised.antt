@@ -24,11 +24,11 @@ use Rattle.theory.specs.Tests.{no-test}
 use Rattle.theory.specs.Lists.{at-tabulate, at-residues, residues-ext, residues-self}
 use Rattle.theory.specs.Codes.{inside→eq, apart-rest}
 use Rattle.theory.specs.Remainders.{mod-add, mod-mul, mod-back}
-use Rattle.theory.specs.Series.{exponential-plus, subset-mod, composition-mod}
-use Rattle.theory.specs.Tables.{at-mod, composition-residues, product-comm, product-assoc}
+use Rattle.theory.specs.Series.{exponential-plus, subset-mod}
+use Rattle.theory.specs.Tables.{at-mod, composition-residues, product-comm, product-assoc, exponential-of-zeros}
 use Rattle.theory.specs.Inverse.{unit-table}
 use Rattle.checks.specs.Accepted.{IsTable}
-use Rattle.board_theory.specs.Single.{single, single-away, nothing-exponential, single-exponential, times-single}
+use Rattle.board_theory.specs.Single.{single, single-away, single-exponential, times-single}
 
 -- ---- c, and what c lacks to m
 
@@ -149,8 +149,4 @@ module _ (n m : ℕ) where
       stays x y false = ap (λ (k : ℕ). k % m) (add-zero x)
 
   pub exponential-fresh : 2 ≤ m → exponentialTable n m (tabulate (2 ^ n) (λ S. 0)) ≡ tabulate (2 ^ n) unit
-  exponential-fresh two =
-      residues-ext n m _ unit (λ T h.
-      composition-mod n m allOnes allOnes _ (λ S. 0) (λ k j. refl) (λ S k. ap (λ (x : ℕ). x % m) (at-tabulate (2 ^ n) (λ S. 0) S k)) T h
-      ∙ ap (λ (x : ℕ). x % m) (nothing-exponential n T h))
-      ∙ unit-table n m two
+  exponential-fresh two = exponential-of-zeros n m (tabulate (2 ^ n) (λ S. 0)) (at-tabulate (2 ^ n) (λ S. 0)) ∙ unit-table n m two

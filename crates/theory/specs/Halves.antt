@@ -5,6 +5,7 @@
 --   from, from-none, from-next         a row from one of its entries on
 --   comp-conv, exp-add                 composition takes binomial products, and the exponential sums, to products
 --   null, one, linear                  the rows 0, 0, ..; 1, 0, 0, ..; a, 1, 0, .. and what composition with them gives
+--   comp-zeros                         zeros composed with a row: its first entry at the empty set, and 0 elsewhere
 --   tab                                the table of a function of codes; tab-ext, tab-inj, tab-add, tab-empty, tab-zeros, tab-unit
 use mathlib.Core.Path.{_≡_, refl, sym, ap, ap₂, _∙_, fun-ext}
 use mathlib.Core.Bool.{cond}
@@ -138,6 +139,11 @@ unfolding comp empty
 empty-comp zero f a = refl
 empty-comp (suc n) f a = empty-comp n f (a .0)
 
+pub comp-zeros : (n : ℕ) (f : Row) → comp n f (zeros n) ≡ scalar n (f 0)
+unfolding comp zeros scalar
+comp-zeros zero f = refl
+comp-zeros (suc n) f = both (comp-zeros n f) (laws n .mul-zero _)
+
 conv-null : (f : Row) (i : ℕ) → conv f null i ≡ 0
 unfolding conv
 conv-null f zero = N.mul-zero _
@@ -181,12 +187,12 @@ unfolding empty tab
 tab-empty zero A = refl
 tab-empty (suc k) A = tab-empty k A
 
-pub tab-zeros : (k : ℕ) → tab k (λ c. 0) ≡ zeros k
+pub tab-zeros : (k : ℕ) (A : ℕ → ℕ) → ((c : ℕ) → c < 2 ^ k → A c ≡ 0) → tab k A ≡ zeros k
 unfolding tab zeros
-tab-zeros zero = refl
-tab-zeros (suc k) = both (tab-zeros k) (tab-zeros k)
+tab-zeros zero A h = h 0 (omega arith)
+tab-zeros (suc k) A h = both (tab-zeros k A (λ c l. h c (omega arith))) (tab-zeros k _ (λ c l. h (2 ^ k + c) (omega arith)))
 
 pub tab-unit : (k : ℕ) → tab k unit ≡ scalar k 1
 unfolding tab scalar
 tab-unit zero = refl
-tab-unit (suc k) = both (tab-unit k) (tab-ext k _ (λ c. 0) (λ c h. ap (λ b. cond b 1 0) (ne-eqb (2 ^ k + c) 0 (omega arith))) ∙ tab-zeros k)
+tab-unit (suc k) = both (tab-unit k) (tab-zeros k _ (λ c h. ap (λ b. cond b 1 0) (ne-eqb (2 ^ k + c) 0 (omega arith))))

@@ -4,6 +4,7 @@
 --   inverse-is                   it is an inverse
 --   inverse-unique               there is but one
 --   inverse-coprime, inverse-exists    there is one exactly where the first entry and m have no common divisor above 1
+--   inverse-of-exponential       that of exp A is exp (0 - A)
 use mathlib.Core.Path.{_≡_, refl, sym, ap, _∙_}
 use mathlib.Core.Bool.{Bool, true, false, cond}
 use mathlib.Core.List.{List}
@@ -11,20 +12,21 @@ use Prim.Native.Nat.{ℕ, _*_, _%_, _^_, _<_, _≤_}
 use native.Mathlib.Nat.{mod-eq-of-lt, zero-mod}
 use native.Mathlib.Omega.{arith}
 use lib.Dec.{eqb}
+use lib.ListN.{length}
 use lib.Pow.{pow-pos}
 use Rattle.definitions.specs.Sums.{tabulate, at}
-use Rattle.definitions.specs.Products.{residues, subsetSum, subsetTable}
-use Rattle.definitions.specs.Partitions.{compositionSum, unit, IsInverse, sharesDivisor}
-use Rattle.theory.specs.Lists.{length-residues, at-residues, residues-ext, at-tabulate, tabulate-ext}
+use Rattle.definitions.specs.Products.{residues, subsetSum, subsetTable, differenceTable}
+use Rattle.definitions.specs.Partitions.{compositionSum, exponentialTable, unit, IsInverse, sharesDivisor}
+use Rattle.theory.specs.Lists.{length-residues, residues-ext, at-tabulate, tabulate-ext}
 use Rattle.theory.specs.Entries.{below-at, below-residues}
 use Rattle.theory.specs.Divisors.{coprime, reciprocal}
 use Rattle.theory.specs.Semiring.{one-mul}
 use Rattle.theory.specs.Halves.{Table, scalar, mul, comp, laws, empty, one, linear, comp-conv, comp-linear, comp-one, tab, tab-empty, tab-unit}
-use Rattle.theory.specs.Product.{subset-empty, tab-mul}
+use Rattle.theory.specs.Product.{tab-mul}
 use Rattle.theory.specs.Composition.{tab-comp}
 use Rattle.theory.specs.Congruence.{red, mul-same, comp-same, same-at}
 use Rattle.theory.specs.Series.{subset-mod}
-use Rattle.theory.specs.Tables.{at-mod, product-comm, product-assoc, product-unit}
+use Rattle.theory.specs.Tables.{at-mod, product-comm, product-assoc, product-unit, product-first, sum-of-difference, exponential-of-sum, exponential-of-zeros}
 use Rattle.theory.specs.Rows.{inverseRow, row-inverts}
 
 -- ---- by halves
@@ -84,11 +86,23 @@ module _ (n m : ℕ) (A : List ℕ) where
   -- the first entry of an inverse is a reciprocal of the first entry
   pub inverse-first : (I : List ℕ) → IsInverse n m A I → at A 0 * at I 0 % m ≡ 1
   inverse-first I i =
-      ap (λ (x : ℕ). x % m) (sym (subset-empty n (at A) (at I))) ∙ sym (at-residues n m _ 0 (pow-pos n))
-      ∙ ap (λ t. at t 0) (i .product) ∙ at-tabulate (2 ^ n) unit 0 (pow-pos n)
+      sym (product-first n m A I) ∙ ap (λ t. at t 0) (i .product) ∙ at-tabulate (2 ^ n) unit 0 (pow-pos n)
 
   pub inverse-coprime : (I : List ℕ) → IsInverse n m A I → sharesDivisor m (at A 0) ≡ false
   inverse-coprime I i = coprime m (at A 0) (at I 0) (inverse-first I i)
 
   pub inverse-exists : 2 ≤ m → sharesDivisor m (at A 0) ≡ false → (I : List ℕ) × IsInverse n m A I
   inverse-exists two h = let r = reciprocal m (at A 0) (omega arith) h in (inverseOf n m (r .0) A, inverse-is (r .0) two (r .1))
+
+-- exp A · exp (0 - A) = exp 0 = 1
+pub inverse-of-exponential : (n m : ℕ) → 2 ≤ m → (A Z : List ℕ) → ((S : ℕ) → S < 2 ^ n → at A S < m) → length Z ≡ 2 ^ n
+    → ((S : ℕ) → S < 2 ^ n → at Z S ≡ 0) → IsInverse n m (exponentialTable n m A) (exponentialTable n m (differenceTable n m Z A))
+inverse-of-exponential n m two A Z a l z = record {
+  long = length-residues n m _;
+  below = below-residues n m _ (omega arith);
+  product =
+      product-comm n m (exponentialTable n m A) (exponentialTable n m (differenceTable n m Z A))
+      ∙ sym (exponential-of-sum n m (differenceTable n m Z A) A)
+      ∙ ap (exponentialTable n m) (sum-of-difference n m Z A l (λ S h. omega (arith, z S h)) a)
+      ∙ exponential-of-zeros n m Z z ∙ unit-table n m two;
+}

@@ -3,7 +3,8 @@
 --   logarithm-is           it is a logarithm; its exponential is E
 --   logarithm-only, logarithm-unique                there is but one
 --   exponential-logarithm, logarithm-exponential    exp (log E) = E and log (exp A) = A
-use mathlib.Core.Path.{_≡_, refl, sym, ap, _∙_}
+--   logarithm-of-product   log (E · F) = log E + log F
+use mathlib.Core.Path.{_≡_, refl, sym, ap, ap₂, _∙_}
 use mathlib.Core.Bool.{true}
 use mathlib.Core.List.{List}
 use Prim.Native.Nat.{ℕ, zero, suc, _%_, _^_, _<_}
@@ -12,7 +13,7 @@ use native.Mathlib.Omega.{arith}
 use lib.ListN.{length}
 use lib.Pow.{pow-pos}
 use Rattle.definitions.specs.Sums.{at}
-use Rattle.definitions.specs.Products.{residues}
+use Rattle.definitions.specs.Products.{residues, sumTable, subsetTable}
 use Rattle.definitions.specs.Partitions.{compositionSum, exponentialTable, allOnes, allBelow, IsLogarithm}
 use Rattle.theory.specs.Lists.{length-residues, at-residues, residues-ext, residues-self}
 use Rattle.theory.specs.Entries.{below-at, below-residues, below-positive}
@@ -20,7 +21,7 @@ use Rattle.theory.specs.Semiring.{both}
 use Rattle.theory.specs.Halves.{Table, Row, comp, laws, empty, empty-comp, tab, tab-empty}
 use Rattle.theory.specs.Composition.{composition-empty, tab-comp}
 use Rattle.theory.specs.Congruence.{red, mul-same, same-at}
-use Rattle.theory.specs.Tables.{composition-residues}
+use Rattle.theory.specs.Tables.{composition-residues, exponential-of-sum, sum-first}
 use Rattle.theory.specs.Rows.{logarithmRow}
 use Rattle.theory.specs.Inverse.{comp-inverts, cancel}
 
@@ -81,3 +82,12 @@ module _ (n m : ℕ) where
 
   pub logarithm-unique : (E A B : List ℕ) → IsLogarithm n m E A → IsLogarithm n m E B → A ≡ B
   logarithm-unique E A B a b = logarithm-only E A a ∙ sym (logarithm-only E B b)
+
+  -- exp (A + B) = exp A · exp B
+  pub logarithm-of-product : (E F A B : List ℕ) → IsLogarithm n m E A → IsLogarithm n m F B → IsLogarithm n m (subsetTable n m E F) (sumTable n m A B)
+  logarithm-of-product E F A B a b = record {
+    long = length-residues n m _;
+    below = below-residues n m _ (below-positive n m A (a .long) (a .below));
+    first = sum-first n m A B (a .first) (b .first);
+    exponential = exponential-of-sum n m A B ∙ ap₂ (subsetTable n m) (a .exponential) (b .exponential);
+  }

@@ -1,14 +1,15 @@
 -- The laws of set power series on functions of codes (a list A gives `at A`), exact and modulo m.
 --   subset-comm, subset-assoc, subset-plus, subset-unit    the subset product
 --   exponential-plus       the exponential of a sum is the product of the exponentials
+--   exponential-nothing    the exponential of zeros is the unit
 --   composition-binomial   composition takes the binomial product of rows to the subset product
 --   subset-mod, composition-mod    both respect equality modulo m
-use mathlib.Core.Path.{_≡_, fun-ext}
+use mathlib.Core.Path.{_≡_, sym, ap, _∙_, fun-ext}
 use Prim.Native.Nat.{ℕ, _+_, _%_, _^_, _<_, _≤_}
 use Rattle.definitions.specs.Products.{subsetSum}
 use Rattle.definitions.specs.Rows.{binomialSum}
 use Rattle.definitions.specs.Partitions.{compositionSum, allOnes, unit}
-use Rattle.theory.specs.Halves.{Row, conv, laws, exp-add, comp-conv, tab-inj, tab-add, tab-unit}
+use Rattle.theory.specs.Halves.{Row, conv, comp, laws, exp-add, comp-conv, comp-zeros, tab-inj, tab-add, tab-zeros, tab-unit}
 use Rattle.theory.specs.Product.{tab-mul}
 use Rattle.theory.specs.Composition.{tab-comp}
 use Rattle.theory.specs.Binomial.{conv-binomial}
@@ -34,6 +35,10 @@ module _ (n : ℕ) where
   exponential-plus A B = tab-inj n _ _
       (rw (← tab-mul n (compositionSum n allOnes A) (compositionSum n allOnes B), ← tab-comp n allOnes A, ← tab-comp n allOnes B, ← tab-comp n allOnes (λ c. A c + B c), tab-add n A B)
       (exp-add n _ _))
+
+  pub exponential-nothing : (A : ℕ → ℕ) → ((S : ℕ) → S < 2 ^ n → A S ≡ 0) → (S : ℕ) → S < 2 ^ n → compositionSum n allOnes A S ≡ unit S
+  exponential-nothing A z = tab-inj n _ _
+      (sym (tab-comp n allOnes A) ∙ ap (comp n allOnes) (tab-zeros n A z) ∙ comp-zeros n allOnes ∙ sym (tab-unit n))
 
   pub composition-binomial : (f g : Row) (A : ℕ → ℕ) (S : ℕ) → S < 2 ^ n
       → compositionSum n (binomialSum f g) A S ≡ subsetSum n (compositionSum n f A) (compositionSum n g A) S

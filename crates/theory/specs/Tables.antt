@@ -3,15 +3,16 @@
 --   product-comm, product-assoc, product-unit, product-of-sum    the subset product
 --   sum-of-difference                          A - B + B = A
 --   exponential-of-sum                         exp (A + B) = exp A · exp B
+--   exponential-of-zeros                       exp 0 = 1
 --   exponential-as-composition                 exp A is the composition of A with a row of ones
 --   composition-of-product                     composition with a binomial product of rows
 --   product-residues, composition-residues     remainders taken early do not matter; composition-row: in the row neither
---   exponential-first, sum-first               first entries
+--   exponential-first, sum-first, difference-first, product-first    first entries
 --   composition-halves, exponential-halves     the halves of the result from those of the table
 use mathlib.Core.Path.{_≡_, refl, sym, ap, ap₂, _∙_}
 use mathlib.Core.List.{List, _++_}
-use Prim.Native.Nat.{ℕ, suc, _+_, _%_, _^_, _<_, _≤_}
-use native.Mathlib.Nat.{mod-mod, mod-eq-of-lt, zero-mod}
+use Prim.Native.Nat.{ℕ, suc, _+_, _*_, _-_, _%_, _^_, _<_, _≤_}
+use native.Mathlib.Nat.{mod-mod, mod-self, mod-eq-of-lt, zero-mod}
 use native.Mathlib.Omega.{arith}
 use lib.ListN.{length, take, drop}
 use lib.Pow.{pow-pos}
@@ -23,8 +24,9 @@ use Rattle.definitions.specs.Partitions.{compositionSum, compositionTable, expo
 use Rattle.theory.specs.Lists.{at-tabulate, at-residues, residues-ext, residues-self, residues-halves}
 use Rattle.theory.specs.Remainders.{mod-add, mod-back}
 use Rattle.theory.specs.Halves.{Row, shift}
+use Rattle.theory.specs.Product.{subset-empty}
 use Rattle.theory.specs.Composition.{composition-empty, composition-lo, composition-hi}
-use Rattle.theory.specs.Series.{subset-comm, subset-assoc, subset-plus, subset-unit, exponential-plus, composition-binomial, subset-mod, composition-mod}
+use Rattle.theory.specs.Series.{subset-comm, subset-assoc, subset-plus, subset-unit, exponential-plus, exponential-nothing, composition-binomial, subset-mod, composition-mod}
 
 -- the row of ones
 unfoldable pub onesRow : ℕ → List ℕ
@@ -76,6 +78,9 @@ module _ (n m : ℕ) where
   exponential-of-sum A B =
       composition-residues allOnes _ ∙ same (exponential-plus n (at A) (at B)) ∙ sym (product-residues _ _)
 
+  pub exponential-of-zeros : (Z : List ℕ) → ((S : ℕ) → S < 2 ^ n → at Z S ≡ 0) → exponentialTable n m Z ≡ residues n m unit
+  exponential-of-zeros Z z = same (exponential-nothing n (at Z) z)
+
   -- a row counts up to its entry n, and modulo m
   row-mod : (f g : Row) (A : List ℕ) → ((k : ℕ) → g k % m ≡ f k % m) → compositionTable n m (tabulate (n + 1) g) A ≡ residues n m (compositionSum n f (at A))
   row-mod f g A e = residues-ext n m _ _ (composition-mod n m _ f (at A) (at A)
@@ -104,6 +109,14 @@ module _ (n m : ℕ) where
 
   pub sum-first : (A B : List ℕ) → at A 0 ≡ 0 → at B 0 ≡ 0 → at (sumTable n m A B) 0 ≡ 0
   sum-first A B a b = at-residues n m _ 0 (pow-pos n) ∙ ap₂ (λ (x y : ℕ). (x + y) % m) a b ∙ zero-mod m
+
+  pub difference-first : (A B : List ℕ) → at A 0 ≡ 0 → at B 0 ≡ 0 → at (differenceTable n m A B) 0 ≡ 0
+  difference-first A B a b =
+      let whole : at A 0 + (m - at B 0) ≡ m = omega (arith, a, b) in
+      at-residues n m _ 0 (pow-pos n) ∙ ap (λ (k : ℕ). k % m) whole ∙ mod-self m
+
+  pub product-first : (A B : List ℕ) → at (subsetTable n m A B) 0 ≡ at A 0 * at B 0 % m
+  product-first A B = at-residues n m _ 0 (pow-pos n) ∙ ap (λ (k : ℕ). k % m) (subset-empty n (at A) (at B))
 
   -- ---- by halves: the upper half of a composition is the product of the next one's lower half and the table's upper half
 

@@ -26,10 +26,14 @@ fn for_each_panel(mut law: impl FnMut(u32, u32, &mut Random)) {
     }
 }
 
-fn table(n: u32, m: u32, first: u32, random: &mut Random) -> Vec<u32> {
-    let mut entries = Fill::Uniform.entries(1 << n, m, random);
+fn filled(fill: Fill, n: u32, m: u32, first: u32, random: &mut Random) -> Vec<u32> {
+    let mut entries = fill.entries(1 << n, m, random);
     entries[0] = first;
     entries
+}
+
+fn table(n: u32, m: u32, first: u32, random: &mut Random) -> Vec<u32> {
+    filled(Fill::Uniform, n, m, first, random)
 }
 
 fn row(n: u32, m: u32, random: &mut Random) -> Vec<u32> {
@@ -64,6 +68,30 @@ fn composition_turns_binomial_into_subset_products() {
         let with_product = result(Call::Composition, n, m, &[&a, &result(Call::BinomialProduct, n, m, &[&f, &g])]);
         let (with_f, with_g) = (result(Call::Composition, n, m, &[&a, &f]), result(Call::Composition, n, m, &[&a, &g]));
         assert_same(&with_product, &result(Call::SubsetProduct, n, m, &[&with_f, &with_g]), || format!("n = {n}, m = {m}"));
+    });
+}
+
+#[test]
+fn logarithm_of_a_product_is_the_sum_of_logarithms() {
+    for_each_panel(|n, m, random| {
+        for fill in [Fill::Uniform, Fill::Largest] {
+            let (e, f) = (filled(fill, n, m, 1, random), filled(fill, n, m, 1, random));
+            let of_product = result(Call::Logarithm, n, m, &[&result(Call::SubsetProduct, n, m, &[&e, &f])]);
+            let (of_e, of_f) = (result(Call::Logarithm, n, m, &[&e]), result(Call::Logarithm, n, m, &[&f]));
+            assert_same(&of_product, &result(Call::Sum, n, m, &[&of_e, &of_f]), || format!("{fill:?}, n = {n}, m = {m}"));
+        }
+    });
+}
+
+#[test]
+fn inverse_of_an_exponential_is_the_exponential_of_zero_minus_the_table() {
+    for_each_panel(|n, m, random| {
+        for fill in [Fill::Uniform, Fill::Largest] {
+            let (a, zeros) = (filled(fill, n, m, 0, random), vec![0; 1 << n]);
+            let inverse = result(Call::Inverse, n, m, &[&result(Call::Exponential, n, m, &[&a])]);
+            let difference = result(Call::Difference, n, m, &[&zeros, &a]);
+            assert_same(&inverse, &result(Call::Exponential, n, m, &[&difference]), || format!("{fill:?}, n = {n}, m = {m}"));
+        }
     });
 }
 
