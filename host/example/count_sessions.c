@@ -13,7 +13,7 @@
 
 enum {
     MOST_BYTES = 9 + 6 * (1 << SPS_MOST_CONTROLS),       /* of a file of either kind */
-    MOST_LINES = 1 << SPS_MOST_CONTROLS,                 /* of pages, of 31 bytes each */
+    MOST_LINES = 1 << SPS_MOST_CONTROLS,                 /* on all pages; each has 31 bytes, and so has a heading */
     MOST_PAGES = (MOST_LINES + 49) / 50
 };
 
@@ -35,7 +35,7 @@ static void show_set(uint32_t code) {
     printf("}");
 }
 
-/* Prints the table as pages for the wall. */
+/* The buffer has room for the pages of every table, so the call is not refused. */
 static void show_pages(uint32_t n, uint32_t m) {
     uint64_t written = sps_write_pages(n, m, table, SPS_TABLE_LENGTH(n), pages, sizeof pages);
     printf("exercises for a set of controls, as pages for the wall:\n");

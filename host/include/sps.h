@@ -223,11 +223,12 @@ uint64_t sps_write_sparse(uint32_t n, uint32_t m,
                           uint8_t *buffer, size_t buffer_len);
 
 /* ---- Wall pages ----------------------------------------------------------------------------------------------------
- * Each nonzero entry has a line, in rising code: the set as letters a to p for controls 0 to 15, or - for the empty set, filled
- * with blanks to 16; one blank; the size right-aligned in 2; one blank; the value right-aligned in 10; a line feed.  Each page
- * begins with a heading, the number of the page from 1 and the number of pages, such as "page 1 of 3", filled with blanks to
- * 30, and a line feed; then come 50 lines, 1 to 50 on the last page.  A table of zeros has one page with only its heading.
- * Lines and headings have 31 bytes each, so all pages have at most 31 * (2^n + (2^n + 49) / 50), divided as C divides. */
+ * Each nonzero entry has one line, and no other has, in rising code: the set as letters a to p for controls 0 to 15 in rising
+ * order, or - for the empty set, filled with blanks to 16; one blank; the size in decimal, right-aligned in 2; one blank; the
+ * value in decimal, right-aligned in 10; a line feed.  Each page begins with a heading, the number of the page from 1 and the
+ * number of pages, such as "page 1 of 3", filled with blanks to 30, and a line feed; then come 50 lines, 1 to 50 on the last
+ * page.  A table of zeros has one page with only its heading.  Lines and headings have 31 bytes each, so all pages have at most
+ * 31 * (2^n + (2^n + 49) / 50), the quotient rounded down. */
 
 /* Fills the start of the buffer with all pages of the table and leaves the bytes behind them unchanged; no 0 ends them.
  * Returns bytes written * 2^32 + number.  Refusals 1, 2, 3, 5, 10.  Time 2^n. */

@@ -90,7 +90,7 @@ has S i = eqb (S / 2 ^ i % 2) 1
 unfoldable pub controlsOf : ℕ → List ℕ
 controlsOf S = keep (has S) (tabulate mostControls (λ i. i))
 
--- `-` for the empty set, and another set's text
+-- `-` for the empty set, and of any other set its text
 abbrev pub orDash : ℕ → List ℕ → List ℕ
 orDash S text = cond (eqb S 0) (45 ∷ []) text
 

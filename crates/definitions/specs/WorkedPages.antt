@@ -103,7 +103,7 @@ pub page-words :
 unfolding pagesNumber allBelow
 page-words = (refl, refl, refl, refl)
 
--- a heading and a line, under the lowest modulus: 61 bytes are too short, 62 are enough; so are 31 for a heading alone, and 31 for
+-- a heading and a line, under the lowest modulus: 61 bytes are too few, 62 are enough; so are 31 for a heading alone, and 31 for
 -- each of 64 lines and two headings
 pub page-room :
     (pagesNumber 0 2 (1 ∷ []) 61 ≡ 10) × (pagesNumber 0 2 (1 ∷ []) 62 ≡ 0)
@@ -112,8 +112,8 @@ pub page-room :
 unfolding pagesNumber allBelow filled aligned behindColumn lineOf headingText heading nonzeroCodes pagesFor linesOf pageText pagesText controlsOf letters tabulate keep digitsIn flatMap ones onesIn
 page-room = (refl, refl, refl, refl, refl, refl)
 
--- what it leaves in a buffer that counts from 0, and how many bytes it counts: the pages and the bytes behind them; where it is
--- refused, for room or for an entry, the buffer
+-- what it leaves in a buffer that counts from 0, or of blanks, and how many bytes it counts: the pages and the bytes behind them;
+-- where it is refused, for room or for an entry, the buffer
 pub page-leaves :
     (pagesBuffer 0 7 (0 ∷ []) (tabulate 33 (λ i. i)) ≡ first-of-one ++ (31 ∷ 32 ∷ []))
     × (pagesBuffer 7 165 every-second (blanks 2047) ≡ wallPages every-second ++ (32 ∷ []))

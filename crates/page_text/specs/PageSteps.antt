@@ -31,13 +31,13 @@ line-written y S v {old} {mid} {last} {at} {i} {r} e a b =
 
 -- ---- the lines of a page
 
--- the next of the rest of a list
-pub record Next (l : List ℕ) (k x : ℕ) (xs : List ℕ) : Type 0 where
-  pub taken : take (suc k) l ≡ take k l ++ (x ∷ [])
-  pub left : drop (suc k) l ≡ xs
-  pub inside : k < length l
+-- behind its first k members a list goes on with x and xs
+record Next (l : List ℕ) (k x : ℕ) (xs : List ℕ) : Type 0 where
+  taken : take (suc k) l ≡ take k l ++ (x ∷ [])
+  left : drop (suc k) l ≡ xs
+  inside : k < length l
 
-pub next : (l : List ℕ) (k x : ℕ) (xs : List ℕ) → drop k l ≡ x ∷ xs → Next l k x xs
+next : (l : List ℕ) (k x : ℕ) (xs : List ℕ) → drop k l ≡ x ∷ xs → Next l k x xs
 next [] zero x xs e = absurd (zero-is-not-one (cc))
 next [] (suc k) x xs e = absurd (zero-is-not-one (cc))
 next (a ∷ l) zero x xs e = record {
@@ -57,7 +57,7 @@ lines-none : (y : Layout) (A : List ℕ) → linesOf y A [] ≡ []
 unfolding linesOf flatMap
 lines-none y A = refl
 
--- from a place on, the next code that has a line
+-- zeros have no line, so the codes from a place on are those from the next entry on that is not 0
 codes-skip : (A : List ℕ) (from k : ℕ) → from + k ≤ length A → ZerosAt A from k → codesFrom A (from + k) ≡ codesFrom A from
 codes-skip A from zero h z = ap (codesFrom A) (let e : from + 0 ≡ from = omega arith in e)
 codes-skip A from (suc k) h z =
@@ -71,7 +71,7 @@ codes-next {A} {from} {r} n =
     let e : r ≡ from + (r - from) = omega (arith, s .behind) in
     ap (codesFrom A) e ∙ codes-skip A from (r - from) (omega (arith, s .behind, s .inside)) (skipped-zeros A from r s)
 
--- so many lines of a page are written, and the others are those from the code on, which is the next that has one
+-- so many lines of a page are written; the others are those from the code on, which is the next code that has a line
 pub record LinesSoFar (y : Layout) (L : ℕ) (A : List ℕ) (c : ℕ) (old : List ℕ) (i : ℕ) (out : List ℕ) (place code left : ℕ) : Type 0 where
   pub few : left ≤ 50
   pub writes : Writes old i (linesOf y A (take (50 - left) (codesFrom A c))) place out

@@ -31,7 +31,7 @@ const HEADING_WIDTH: usize = 30;
 // The length of a line, and of a heading.
 const LINE_LENGTH: u32 = 31;
 
-// What stands for a control: its letter if its bit is 1.
+// What stands for a control: its letter if its bit is 1, else a blank.
 fn letter_or_blank(bit: usize, letter: u8) -> u8
     ensures { λ r. ⌜ r ≡ letterOrBlank bit letter ⌝ }
 {
@@ -42,7 +42,7 @@ fn letter_or_blank(bit: usize, letter: u8) -> u8
 }
 
 // The letters of a set, filled with blanks; answers the size of the set, which is how many letters there are. The loop stores a
-// byte for each control, its letter or a blank over a blank, so that it takes the same way for every set.
+// byte for each control, its letter or a blank over a blank, so that the choice needs no jump.
 fn write_column(code: usize, at: usize, out: &mut [u8]) -> usize
     requires { ⌜ Room code 16 at (now out) ⌝ }
     ensures { λ r. ⌜ r ≡ size code ⌝ }
@@ -94,7 +94,7 @@ fn write_lines(table: &[u32], first: usize, at: usize, out: &mut [u8]) -> Place
     }
 }
 
-// All pages, of which there are so many.
+// All pages; `pages` is how many there are.
 fn write_all(pages: u32, table: &[u32], out: &mut [u8]) -> usize
     requires { ⌜ PagesRoom letterLayout (now table) pages (now out) ⌝ }
     ensures { λ r. ⌜ Writes (now (out .entry)) 0 (wallPages (now (table .entry))) r (now (out .exit)) ⌝ }

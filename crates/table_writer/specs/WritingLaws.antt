@@ -1,6 +1,7 @@
 -- What calls that write a text share, and the same of the writers of both kinds.
 --   text-short, text-long           what a write leaves, by the buffer's length
---   text-accepted, text-refused     and by the tests before it; as-written, as-refused: by a call of these tests
+--   text-accepted, text-refused     the same behind tests
+--   few-entries, as-written, as-refused   and behind `check_table`
 --   by-tests                        a writer's number: that of the table, and then the buffer's length
 --   accepted-write, refused-write, too-short, long-enough   a file is such a text
 use mathlib.Core.Path.{_≡_, refl, sym, _∙_, subst}

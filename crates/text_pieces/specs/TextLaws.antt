@@ -3,7 +3,7 @@
 --   decimal-left, aligned-last, aligned-left  a number aligned to the right, by its last byte
 --   writes-append, writes-byte, writes-one, writes-none   one piece behind another, one byte, nothing
 --   writes-length, writes-room                the buffer is as long as it was; room behind a piece
---   writes-front, writes-over, writes-again   a byte in front of a piece, one inside it changed, all of it;
+--   writes-front, writes-over, writes-again   a byte in front of a piece, one inside it changed, all of it written over;
 --                                             writes-there: it is there already
 --   filled-written                            a piece, and blanks behind it
 --   flatMap-one                               one text more behind some

@@ -73,8 +73,8 @@ fn digit_or_blank(rest: u32) -> u8
     48 + ((rest % 10) as u8)
 }
 
-// What is left of a number, aligned to the right before the place `end`, from its last digit on. As many bytes are stored for
-// every number, so that where the width is known the compiler needs no loop.
+// What is left of a number, aligned to the right before the place `end`, from its last digit on. The same number of
+// bytes is stored whatever the number, so that no step depends on how many digits it has.
 fn write_left(number: u32, at: usize, end: usize, out: &mut [u8])
     requires { ⌜ number < 10 ^ (end - at) ⌝ }
     requires { ⌜ at ≤ end ⌝ }

@@ -114,6 +114,7 @@ fn page_refusals() {
             let good = random_file(Kind::Full, n, m, Fill::Uniform, random);
             let length = pages(&good.entries).len();
             for_each_refusal(&good, random, |table, short, word| {
+                // Room for a line and a page more, which a wrong entry may add.
                 check_pages(table, if short { length - 1 } else { length + 2 * 31 }, word);
             });
         }

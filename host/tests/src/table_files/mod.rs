@@ -75,8 +75,8 @@ pub fn for_each_file(most: u32, mut show: impl FnMut(File, &mut Random)) {
     }
 }
 
-/// What a call that writes a table refuses: a table made wrong in every company of the words 1, 2, 3, 5 and 10, whether its
-/// buffer is to be short, and the lowest word.
+/// For every choice of the words 1, 2, 3, 5 and 10 a table to which they apply, whether its buffer is to be short, and the lowest
+/// of them.
 pub fn for_each_refusal(good: &File, random: &mut Random, mut show: impl FnMut(&File, bool, u32)) {
     for which in 1..32 {
         let wrong = |bit| which >> bit & 1 == 1;
