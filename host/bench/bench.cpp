@@ -39,7 +39,7 @@ struct Data {
     u32 weight = random(5, 1)[0];
     Table left = result, right = result, recipe_pad = Table(SPS_RECIPE_PAD_LENGTH(n), 1);
     Table few = with_nonzero(std::max<std::size_t>(1, 300 * entries >> 16)), all = with_nonzero(entries);
-    Bytes buffer = Bytes(9 + 6 * entries, 1), plain_buffer = buffer;
+    Bytes buffer = Bytes(31 * (entries + (entries + 49) / 50), 1), plain_buffer = buffer;  // for all pages; a file is shorter
     Bytes file = file_of(Kind::Full, a), few_full = file_of(Kind::Full, few);
     Bytes few_sparse = file_of(Kind::Sparse, few), all_sparse = file_of(Kind::Sparse, all);
 
@@ -234,6 +234,15 @@ std::vector<Bench> benches() {
     add_in("full writer", "sparse writer few", [few_writer](Data &d) { return few_writer(d) & 0xffffffff; },
         [](Data &d) { return sps_write_table(d.n, d.m, TABLE(few), TABLE(plain_buffer)) & 0xffffffff; });
     add_writer("sparse writer all", Kind::Sparse, &Data::all);
+
+    auto add_pages = [&](std::string call, Table Data::*table) {
+        auto writer = [table](Data &d) { return sps_write_pages(d.n, d.m, LENT(table), TABLE(buffer)); };
+        add(call, "plain", writer, [table](Data &d) { return plain::write_pages(d.n, (d.*table).data(), d.plain_buffer.data()); });
+        add(call, "plain + tests", writer,
+            [table](Data &d) { return plain::write_pages_tested(d.n, d.m, LENT(table), TABLE(plain_buffer)); });
+    };
+    add_pages("pages few", &Data::few);
+    add_pages("pages all", &Data::all);
     return all;
 }
 
@@ -316,10 +325,10 @@ int main() {
                 "product, that is testing every entry, the ceiling (subset product) and clearing the pad. The yardsticks\n"
                 "\"subset product\", \"exponential\", \"full reader\" and \"full writer\" are the library's own calls, and so are\n"
                 "the calls of a recipe, made one by one. Weight is added to a board at controls from the middle of the panel;\n"
-                "tests are those of every entry, in a reader those of everything in the file, in a writer also that of the\n"
-                "buffer's length, all made before the table or the buffer is touched. A plain reader goes over the file once.\n"
-                "In \"few\" 300 of 65,536 entries are not 0, on smaller panels the same share and at least one; in \"all\" every\n"
-                "entry.\n\n", ROUNDS);
+                "tests are those of every entry, in a reader those of everything in the file, in a writer of files or pages also\n"
+                "that of the buffer's length, all made before the table or the buffer is touched. A plain reader goes over the\n"
+                "file once. In \"few\" 300 of 65,536 entries are not 0, on smaller panels the same share and at least one; in\n"
+                "\"all\" every entry.\n\n", ROUNDS);
     std::printf("%-44s library / yardstick at n =     library's growth   n = 16 in subset\n", "");
     std::printf("%-17s %-16s %-10s %6u %6u %6u %6u     12 to 14  14 to 16   products        ms\n",
                 "call", "yardstick", "modulus", 8, 12, 14, 16);

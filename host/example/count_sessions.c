@@ -4,17 +4,23 @@
  * once, so the number of sessions is the whole panel's entry of the table's exponential. That number outgrows a machine
  * word; what is printed is its residue under several moduli, each by itself. Under the file's modulus also how the sessions
  * divide by their number of exercises, which is the projection of the table that is 1 at the empty set, and of the file's; and
- * how many are left when an exercise is withdrawn, by a board. Before that, how many bytes the table's file of each kind has. */
+ * how many are left when an exercise is withdrawn, by a board. Before that, the table itself as pages for the wall, and how many
+ * bytes its file of each kind has. */
 #include <stdio.h>
 #include <stdlib.h>
 
 #include "sps.h"
 
-enum { MOST_BYTES = 9 + 6 * (1 << SPS_MOST_CONTROLS) }; /* of a file of either kind */
+enum {
+    MOST_BYTES = 9 + 6 * (1 << SPS_MOST_CONTROLS),       /* of a file of either kind */
+    MOST_LINES = 1 << SPS_MOST_CONTROLS,                 /* on all pages; each has 31 bytes, and so has a heading */
+    MOST_PAGES = (MOST_LINES + 49) / 50
+};
 
 /* Seven bytes more than the longest file, so that the word of a longer one is decided: a count may have five bytes in place of
  * three, and one gap too many is read to its last byte, the fifth. */
 static uint8_t bytes[MOST_BYTES + 7];
+static uint8_t pages[31 * (MOST_LINES + MOST_PAGES)];
 static uint32_t table[1 << SPS_MOST_CONTROLS];
 
 static void show_set(uint32_t code) {
@@ -29,17 +35,11 @@ static void show_set(uint32_t code) {
     printf("}");
 }
 
-static void show_table(uint32_t n) {
-    const int most = 10;
-    int shown = 0;
-    printf("exercises for a set of controls:\n");
-    for (uint32_t code = 0; code < SPS_TABLE_LENGTH(n); code++) {
-        if (table[code] != 0 && shown++ < most) {
-            show_set(code);
-            printf(" %lu\n", (unsigned long)table[code]);
-        }
-    }
-    if (shown > most) printf("  and %d sets more\n", shown - most);
+/* The buffer has room for the pages of every table, so the call is not refused. */
+static void show_pages(uint32_t n, uint32_t m) {
+    uint64_t written = sps_write_pages(n, m, table, SPS_TABLE_LENGTH(n), pages, sizeof pages);
+    printf("exercises for a set of controls, as pages for the wall:\n");
+    fwrite(pages, 1, (size_t)(written >> 32), stdout);
 }
 
 /* Writes the table as a file of each kind, and says how long they are. */
@@ -146,7 +146,7 @@ int main(int count, char **words) {
         return EXIT_FAILURE;
     }
     printf("%s: %lu controls, modulus %lu\n", words[1], (unsigned long)n, (unsigned long)m);
-    show_table(n);
+    show_pages(n, m);
     show_lengths(n, m);
     show_sessions(n, m);
     return EXIT_SUCCESS;

@@ -36,7 +36,7 @@ enum {
     SPS_HALVING = 7,  /* xor product with m even, also in a recipe */
     SPS_GROUP = 8,    /* a number in a file ends early, is not in its shortest form, or is 2^32 or more */
     SPS_TAIL = 9,     /* bytes after the last entry of a file */
-    SPS_SHORT = 10,   /* the buffer is shorter than the file */
+    SPS_SHORT = 10,   /* the buffer is shorter than the file, or than all pages */
     SPS_EMPTY = 11,   /* a change at the empty set */
     SPS_CODE = 12,    /* a change at a code of 2^n or more */
     SPS_RECIPE = 13,  /* the line of a recipe has more than 120 bytes or is outside the grammar */
@@ -221,6 +221,20 @@ uint64_t sps_write_table(uint32_t n, uint32_t m,
 uint64_t sps_write_sparse(uint32_t n, uint32_t m,
                           const uint32_t *table, size_t table_len,
                           uint8_t *buffer, size_t buffer_len);
+
+/* ---- Wall pages ----------------------------------------------------------------------------------------------------
+ * Each nonzero entry has one line, and no other has, in rising code: the set as letters a to p for controls 0 to 15 in rising
+ * order, or - for the empty set, filled with blanks to 16; one blank; the size in decimal, right-aligned in 2; one blank; the
+ * value in decimal, right-aligned in 10; a line feed.  Each page begins with a heading, the number of the page from 1 and the
+ * number of pages, such as "page 1 of 3", filled with blanks to 30, and a line feed; then come 50 lines, 1 to 50 on the last
+ * page.  A table of zeros has one page with only its heading.  Lines and headings have 31 bytes each, so all pages have at most
+ * 31 * (2^n + (2^n + 49) / 50), the quotient rounded down. */
+
+/* Fills the start of the buffer with all pages of the table and leaves the bytes behind them unchanged; no 0 ends them.
+ * Returns bytes written * 2^32 + number.  Refusals 1, 2, 3, 5, 10.  Time 2^n. */
+uint64_t sps_write_pages(uint32_t n, uint32_t m,
+                         const uint32_t *table, size_t table_len,
+                         uint8_t *buffer, size_t buffer_len);
 
 #ifdef __cplusplus
 }

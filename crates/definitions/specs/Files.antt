@@ -8,7 +8,7 @@ use lib.Dec.{ltb, eqb}
 use lib.ListN.{length, drop}
 use Rattle.definitions.specs.Limits.{mostControls, sparseMark}
 use Rattle.definitions.specs.Outcomes.{Outcome, accepted, andThen, unless, numberOf, valueOr}
-use Rattle.definitions.specs.Refusals.{wordIf, firstWord, panelWord, modulusWord, tableWord, entryWord, after, valueAfter}
+use Rattle.definitions.specs.Refusals.{wordIf, firstWord, panelWord, modulusWord, tableWord, entryWord, bufferWord, after, valueAfter}
 use Rattle.definitions.specs.Groups.{Numeral, groups, readNumber}
 
 -- ---- kinds
@@ -45,7 +45,7 @@ numbersOf sparse a = nonzeroCount a ∷ pairsFrom 0 a
 unfoldable pub fileOf : Kind → ℕ → ℕ → List ℕ → List ℕ
 fileOf kind n m a = groups (firstNumber kind n) ++ (groups m ++ flatMap groups (numbersOf kind a))
 
--- the number of the writer of a kind, whose buffer has b bytes; 10, short: the buffer is shorter than the file
+-- the number of the writer of a kind, whose buffer has b bytes
 unfoldable pub writerNumber : Kind → ℕ → ℕ → List ℕ → ℕ → ℕ
 writerNumber kind n m a b =
     firstWord
@@ -53,7 +53,7 @@ writerNumber kind n m a b =
     ∷ modulusWord m
     ∷ tableWord n (length a)
     ∷ entryWord m a
-    ∷ wordIf (ltb b (length (fileOf kind n m a))) 10
+    ∷ bufferWord b (length (fileOf kind n m a))
     ∷ [])
 
 -- how many bytes are written

@@ -12,7 +12,9 @@ pub mod Recipes
 pub mod Groups
 pub mod Files
 pub mod Show
+pub mod Pages
 pub mod Worked
 pub mod WorkedBoards
 pub mod WorkedRecipes
 pub mod Samples
+pub mod WorkedPages

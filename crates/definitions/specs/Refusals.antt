@@ -1,6 +1,7 @@
 -- 01's words of refusal, with those of 02, the tests behind them, and the number of each call on tables and rows: 0 if it is
--- accepted, else the lowest word that applies. (The numbers of the calls on boards are in Boards, those of files in Files; a recipe's
--- number, its words 4, 13 and 14, and what its pad holds are in Recipes.) Also what a call leaves in the memory that it was lent.
+-- accepted, else the lowest word that applies. (The numbers of the calls on boards are in Boards, those of files in Files, that of
+-- pages in Pages; a recipe's number, its words 4, 13 and 14, and what its pad holds are in Recipes.) Also what a call leaves in the
+-- memory that it was lent.
 use mathlib.Core.Path.{_≡_}
 use mathlib.Core.Bool.{Bool, true, false, not}
 use mathlib.Core.List.{List, [], _∷_, _++_}
@@ -65,6 +66,10 @@ sharedStartWord m a = wordIf (sharesDivisor m (at a 0)) 6
 -- 7, halving: m even
 abbrev pub halvingWord : ℕ → ℕ
 halvingWord m = wordIf (eqb (m % 2) 0) 7
+
+-- 10, short: a buffer of b bytes, for k that are to be written
+abbrev pub bufferWord : ℕ → ℕ → ℕ
+bufferWord b k = wordIf (ltb b k) 10
 
 -- 11, empty: a change at the empty set
 abbrev pub emptyWord : ℕ → ℕ

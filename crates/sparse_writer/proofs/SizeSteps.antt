@@ -23,7 +23,8 @@ use Rattle.number_groups.specs.Stores.{sets-append}
 use Rattle.table_writer.specs.Writing.{refusedWith, shortWord, WrittenBy}
 use Rattle.table_writer.specs.WritingLaws.{accepted-write, refused-write}
 use Rattle.table_writer.specs.declared.Written.{Written}
-use Rattle.sparse_writer.specs.Sizes.{NextEntry, SizesAre, EntryRefused, Measures}
+use Rattle.nonzero_entries.specs.Entries.{NextEntry}
+use Rattle.sparse_writer.specs.Sizes.{SizesAre, EntryRefused, Measures}
 use Rattle.sparse_writer.specs.SizeLaws.{pairs-next, count-next, below-next, pairs-last, count-last, below-last}
 use Rattle.sparse_writer.specs.declared.SizesAnswer.{SizesAnswer}
 use Rattle.sparse_writer.specs.declared.SizesAnswer.the-variants as answer

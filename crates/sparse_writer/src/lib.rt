@@ -12,10 +12,11 @@ ghost use Rattle.definitions.specs.Groups.{groups};
 ghost use Rattle.definitions.specs.Files.{sparse, nonzeroCount, pairsFrom, fileOf, writerNumber, writtenCount, writtenBuffer};
 ghost use Rattle.checks.specs.Answers.{IsChecked};
 ghost use Rattle.table_writer.specs.Writing.{shortWord, MostEntries, WrittenBy};
-ghost use Rattle.sparse_writer.specs.Sizes.{ZerosAt, Skipped, NextEntry, SizesAre, Measures};
+ghost use Rattle.sparse_writer.specs.Sizes.{SizesAre, Measures};
 use checks::Checked;
 use checks::check_modulus;
 use checks::power;
+use nonzero_entries::next_entry;
 use number_groups::number_length;
 use number_groups::write_number;
 use refusal_words::length_word;
@@ -33,46 +34,6 @@ pub enum SizesAnswer {
     Sizes(Sizes),
     // the number of the refusal
     Refused(u32),
-}
-
-// Eight entries joined, bit by bit: 0 only if all of them are 0.
-fn eight_joined(table: &[u32], from: usize) -> u32
-    requires { ⌜ from + 8 ≤ length (now table) ⌝ }
-    ensures { λ r. ⌜ (r ≡ 0 → ZerosAt (now (table .entry)) from 8) ⌝ }
-{
-    let low = table[from] | table[from + 1] | table[from + 2] | table[from + 3];
-    let high = table[from + 4] | table[from + 5] | table[from + 6] | table[from + 7];
-    low | high
-}
-
-// Skips entries that are 0, eight at a time.
-fn skip_eights(table: &[u32], from: usize) -> usize
-    requires { ⌜ from ≤ length (now table) ⌝ }
-    ensures { λ r. ⌜ Skipped (now (table .entry)) from r ⌝ }
-{
-    let mut code = from;
-    while 8 <= table.len() - code {
-        if eight_joined(table, code) != 0 {
-            return code;
-        }
-        code += 8;
-    }
-    code
-}
-
-// The code of the first entry from a place on that is not 0, and the table's length if there is none.
-fn next_entry(table: &[u32], from: usize) -> usize
-    requires { ⌜ from ≤ length (now table) ⌝ }
-    ensures { λ r. ⌜ NextEntry (now (table .entry)) from r ⌝ }
-{
-    let mut code = skip_eights(table, from);
-    while code < table.len() {
-        if table[code] != 0 {
-            return code;
-        }
-        code += 1;
-    }
-    code
 }
 
 // The first pass: the entries are tested, 5 if one is not below m, and measured.

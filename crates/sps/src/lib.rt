@@ -11,6 +11,7 @@ ghost use Rattle.definitions.specs.Boards.{board, addedAt, raisedOver, lacking,
 ghost use Rattle.definitions.specs.Outcomes.{Outcome};
 ghost use Rattle.definitions.specs.Recipes.{Tree, sum, ReadAs, Choice, lettered, recipeNumber, recipeResult, recipePad};
 ghost use Rattle.definitions.specs.Files.{full, sparse, headerNumber, headerControls, headerModulus, packed, readerNumber, readerControls, readerModulus, tableRead, writerNumber, writtenCount, writtenBuffer};
+ghost use Rattle.definitions.specs.Pages.{pagesNumber, pagesWritten, pagesBuffer};
 ghost use Rattle.theory.specs.Logarithm.{logarithmOf};
 ghost use Rattle.series_calls.specs.InverseTables.{inverseTable};
 ghost use Rattle.sps.specs.Packing.{withNumber};
@@ -266,5 +267,14 @@ pub extern "C" fn sps_write_sparse(n: u32, m: u32, table: &[u32], buffer: &mut [
     ensures { λ _. ⌜ now (buffer .exit) ≡ writtenBuffer sparse n m (now (table .entry)) (now (buffer .entry)) ⌝ }
 {
     let written = sparse_writer::write_sparse(n, m, table, buffer);
+    with_number(written.count, written.number)
+}
+
+#[no_mangle]
+pub extern "C" fn sps_write_pages(n: u32, m: u32, table: &[u32], buffer: &mut [u8]) -> u64
+    ensures { λ r. ⌜ r ≡ withNumber (pagesWritten n m (now (table .entry)) (length (now (buffer .entry)))) (pagesNumber n m (now (table .entry)) (length (now (buffer .entry)))) ⌝ }
+    ensures { λ _. ⌜ now (buffer .exit) ≡ pagesBuffer n m (now (table .entry)) (now (buffer .entry)) ⌝ }
+{
+    let written = pages::write_pages(n, m, table, buffer);
     with_number(written.count, written.number)
 }

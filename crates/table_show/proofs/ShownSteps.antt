@@ -19,8 +19,9 @@ use Rattle.table_header.specs.declared.OpeningAnswer.the-variants as opening
 use Rattle.table_file.specs.Entries.{contentsNumber, headerAt}
 use Rattle.table_file.specs.Reading.{body-number, BodyRead, body-accepted}
 use Rattle.sparse_file.specs.Pairs.{Fills}
-use Rattle.table_show.specs.Text.{Writes, Shows, headedText, linesTo, longestText, TableFits}
-use Rattle.table_show.specs.TextLaws.{writes-length}
+use Rattle.text_pieces.specs.Text.{Writes}
+use Rattle.table_show.specs.Text.{Shows, headedText, linesTo, longestText, TableFits}
+use Rattle.text_pieces.specs.TextLaws.{writes-length}
 
 -- ---- behind a header
 

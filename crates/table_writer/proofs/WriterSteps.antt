@@ -1,23 +1,14 @@
 -- The steps of writing a full file: its length, its entries, the whole.
 use mathlib.Core.Path.{_≡_, sym, _∙_, ap}
 use mathlib.Core.List.{List, [], _++_, flatMap}
-use Prim.Native.Nat.{ℕ, _+_, _*_, _^_, _<_, _≤_}
+use Prim.Native.Nat.{ℕ, _+_, _*_, _<_, _≤_}
 use native.Mathlib.Numerals.{add-one}
 use native.Mathlib.Omega.{arith}
 use lib.ListN.{length, drop, getD, length-append, drop-of-length-le}
-use lib.Pow.{pow-mono}
 use lib.Seq.{sets, drop-cons, length-sets}
 use Rattle.definitions.specs.Groups.{groups}
-use Rattle.definitions.specs.Limits.{mostControls}
-use Rattle.definitions.specs.Files.{full, fileOf, writerNumber}
-use Rattle.checks.specs.Accepted.{tableNumber, table-accepted}
-use Rattle.checks.specs.Answers.{IsChecked, accepted, refused}
-use Rattle.checks.specs.declared.Checked.{Checked}
-use Rattle.checks.specs.declared.Checked.the-variants as checked
+use Rattle.definitions.specs.Files.{full, fileOf}
 use Rattle.number_groups.specs.Stores.{sets-append}
-use Rattle.table_writer.specs.Writing.{refusedWith, shortWord, WrittenBy}
-use Rattle.table_writer.specs.WritingLaws.{accepted-write, refused-write}
-use Rattle.table_writer.specs.declared.Written.{Written}
 
 -- the entries from a place on
 abbrev pub entriesFrom : List ℕ → ℕ → List ℕ
@@ -105,20 +96,3 @@ module _ (n m : ℕ) (a old : List ℕ) where
       let all : sets one second (groups m ++ flatMap groups a) ≡ sets old 0 (groups n ++ (groups m ++ flatMap groups a)) =
       rw (p, f) (sym (sets-append old 0 (groups n) (groups m ++ flatMap groups a))) in
       e ∙ behind ∙ all
-
--- ---- the call
-
-module _ (n m : ℕ) (a old : List ℕ) where
-  module _ {r : Checked} (tests : IsChecked m (tableNumber n m a) r) where
-    pub few-entries : {modulus : _} → r ≡ checked.Accepted modulus → length a ≤ 2 ^ mostControls
-    few-entries e =
-        let t = table-accepted n m a (accepted tests e) in
-        omega (arith, t .1 .size, pow-mono (t .0 .few))
-
-    pub as-written : {modulus : _} → r ≡ checked.Accepted modulus → {w : Written} {buffer : List ℕ} →
-        WrittenBy full n m a (shortWord full n m a (length old)) old w buffer → WrittenBy full n m a (writerNumber full n m a (length old)) old w buffer
-    as-written e h = accepted-write full n m a old (accepted tests e) h
-
-    pub as-refused : {word : ℕ} → r ≡ checked.Refused word →
-        WrittenBy full n m a (writerNumber full n m a (length old)) old (refusedWith word) old
-    as-refused e = refused-write full n m a old (refused tests e) (tests .word _ e)

@@ -13,7 +13,7 @@ use checks::check_table;
 use number_groups::number_length;
 use number_groups::write_number;
 
-// The number of a call of a writer, and how many bytes it wrote.
+// The number of a call that writes to a buffer, and how many bytes it wrote.
 pub struct Written {
     pub number: u32,
     pub count: u32,

@@ -39,6 +39,8 @@ mod raw {
             buffer: *mut u8, buffer_len: usize) -> u64;
         pub fn sps_write_sparse(n: u32, m: u32, table: *const u32, table_len: usize,
             buffer: *mut u8, buffer_len: usize) -> u64;
+        pub fn sps_write_pages(n: u32, m: u32, table: *const u32, table_len: usize,
+            buffer: *mut u8, buffer_len: usize) -> u64;
     }
 }
 
@@ -121,4 +123,9 @@ pub fn write_table(n: u32, m: u32, table: &[u32], buffer: &mut [u8]) -> u64 {
 pub fn write_sparse(n: u32, m: u32, table: &[u32], buffer: &mut [u8]) -> u64 {
     // Sound: as above.
     unsafe { raw::sps_write_sparse(n, m, table.as_ptr(), table.len(), buffer.as_mut_ptr(), buffer.len()) }
+}
+
+pub fn write_pages(n: u32, m: u32, table: &[u32], buffer: &mut [u8]) -> u64 {
+    // Sound: as above.
+    unsafe { raw::sps_write_pages(n, m, table.as_ptr(), table.len(), buffer.as_mut_ptr(), buffer.len()) }
 }

@@ -44,3 +44,8 @@ impl<T: Copy + PartialEq + Debug> Lent<T> {
         }
     }
 }
+
+/// Bytes that differ from their neighbours, for a buffer in which what is left must stay in its place.
+pub fn counting_bytes(length: usize) -> Vec<u8> {
+    (0..length).map(|i| (i % 251) as u8).collect()
+}

@@ -13,6 +13,7 @@ mod reference;
 mod boards;
 mod entrywise;
 mod laws;
+mod pages;
 mod panelshow;
 mod partition_calls;
 mod recipes;

@@ -75,6 +75,33 @@ pub fn for_each_file(most: u32, mut show: impl FnMut(File, &mut Random)) {
     }
 }
 
+/// For every choice of the words 1, 2, 3, 5 and 10 a table to which they apply, whether its buffer is to be short, and the lowest
+/// of them.
+pub fn for_each_refusal(good: &File, random: &mut Random, mut show: impl FnMut(&File, bool, u32)) {
+    for which in 1..32 {
+        let wrong = |bit| which >> bit & 1 == 1;
+        let lowest = [1, 2, 3, 5, 10][(0..5).find(|bit| wrong(*bit)).unwrap()];
+        for _ in 0..4 {
+            let mut file = good.clone();
+            if wrong(3) {
+                let place = random.below(1 << good.n) as usize;
+                file.entries[place] = *random.pick(&[good.m, u32::MAX]);
+            }
+            if wrong(2) {
+                let right = file.entries.len();
+                file.entries.resize(*random.pick(&[0, right - 1, right + 1, 2 * right]), 0);
+            }
+            if wrong(1) {
+                file.m = *random.pick(&[0, 1]);
+            }
+            if wrong(0) {
+                file.n = *random.pick(&[17, 32, 64, u32::MAX]);
+            }
+            show(&file, wrong(4), lowest);
+        }
+    }
+}
+
 /// The file cut off at every length, with every byte changed, with bytes put in, left out and put behind.
 pub fn for_each_damage(bytes: &[u8], random: &mut Random, mut show: impl FnMut(&[u8])) {
     let values: Vec<u8> = match bytes.len() {

@@ -1,9 +1,9 @@
 //! The writers, and the way there and back.
 
-use super::{file_with_nonzero, for_each_file, in_both_kinds, nearly_a_file, packed, random_file};
+use super::{file_with_nonzero, for_each_file, for_each_refusal, in_both_kinds, nearly_a_file, packed, random_file};
 use super::{sample, table_length, SAMPLES};
 use crate::ffi;
-use crate::lent::Lent;
+use crate::lent::{counting_bytes, Lent};
 use crate::random::{Fill, Random};
 use crate::reference::files::{read, File, Kind, KINDS};
 
@@ -18,7 +18,7 @@ fn write(kind: Kind, n: u32, m: u32, table: &[u32], buffer: &mut [u8]) -> u64 {
 /// Writes the table to a buffer of the length and compares all outcomes with the encoder's.
 pub fn check_writer(file: &File, buffer_length: usize, word: u32) {
     let table = Lent::new(&file.entries, 0xa5a5_5a5a, 1);
-    let mut buffer = Lent::new(&vec![0xee; buffer_length], 0x05, 3);
+    let mut buffer = Lent::new(&counting_bytes(buffer_length), 0x05, 3);
     let answer = write(file.kind, file.n, file.m, table.slice(), buffer.slice_mut());
     let bytes = if word == 0 { file.bytes() } else { Vec::new() };
     let about = format!("{:?} writer with n = {}, m = {}, buffer of {buffer_length}", file.kind, file.n, file.m);
@@ -71,29 +71,10 @@ fn writer_refusals() {
     for (kind, n) in in_both_kinds([0, 1, 3, 6]) {
         for m in [2, 7, 30030, 4_294_967_295] {
             let good = random_file(kind, n, m, Fill::Uniform, random);
-            for which in 1..32 {
-                let wrong = |bit| which >> bit & 1 == 1;
-                let lowest = [1, 2, 3, 5, 10][(0..5).find(|bit| wrong(*bit)).unwrap()];
-                for _ in 0..4 {
-                    let mut file = good.clone();
-                    let length = if wrong(4) { file.bytes().len() - 1 } else { file.bytes().len() + 100 };
-                    if wrong(3) {
-                        let place = random.below(1 << n) as usize;
-                        file.entries[place] = *random.pick(&[m, u32::MAX]);
-                    }
-                    if wrong(2) {
-                        let right = file.entries.len();
-                        file.entries.resize(*random.pick(&[0, right - 1, right + 1, 2 * right]), 0);
-                    }
-                    if wrong(1) {
-                        file.m = *random.pick(&[0, 1]);
-                    }
-                    if wrong(0) {
-                        file.n = *random.pick(&[17, 32, 64, u32::MAX]);
-                    }
-                    check_writer(&file, length, lowest);
-                }
-            }
+            for_each_refusal(&good, random, |file, short, word| {
+                let length = if short { good.bytes().len() - 1 } else { good.bytes().len() + 100 };
+                check_writer(file, length, word);
+            });
         }
     }
 }

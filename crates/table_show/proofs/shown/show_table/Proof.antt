@@ -1,7 +1,7 @@
 use mathlib.Core.Path.{_∙_}
 use denote.Ref.{now}
 use Rattle.table_file.specs.Entries.{headerAt}
-use Rattle.table_show.specs.TextLaws.{writes-same}
+use Rattle.text_pieces.specs.TextLaws.{writes-same}
 use Rattle.table_show.proofs.ShownSteps.{refused-text, contents-stand, file-text, table-fits}
 use borrow.Author.Needs.{needs}
 use Rattle.table_show.proofs.shown.show_table.Statement.{statement}

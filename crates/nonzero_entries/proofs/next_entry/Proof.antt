@@ -1,10 +1,10 @@
 use Prim.Native.Nat.{_-_}
 use lib.ListN.{length}
 use borrow.Author.Needs.{needs}
-use Rattle.sparse_writer.specs.Sizes.{Skipped}
-use Rattle.sparse_writer.specs.SizeLaws.{one-skipped, here-next, none-next}
-use Rattle.sparse_writer.proofs.next_entry.Statement.{statement}
-use Rattle.sparse_writer.proofs.next_entry.Tie as tie
+use Rattle.nonzero_entries.specs.Entries.{Skipped}
+use Rattle.nonzero_entries.specs.EntryLaws.{one-skipped, here-next, none-next}
+use Rattle.nonzero_entries.proofs.next_entry.Statement.{statement}
+use Rattle.nonzero_entries.proofs.next_entry.Tie as tie
 
 abbrev Inv-loop : tie.InvT-loop
 Inv-loop table from code₀ code = Skipped table from code

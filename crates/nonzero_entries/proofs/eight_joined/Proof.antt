@@ -1,8 +1,8 @@
 use denote.Ref.{now}
-use Rattle.sparse_writer.specs.SizeLaws.{eight-zeros}
+use Rattle.nonzero_entries.specs.EntryLaws.{eight-zeros}
 use borrow.Author.Needs.{needs}
-use Rattle.sparse_writer.proofs.eight_joined.Statement.{statement}
-use Rattle.sparse_writer.proofs.eight_joined.Tie as tie
+use Rattle.nonzero_entries.proofs.eight_joined.Statement.{statement}
+use Rattle.nonzero_entries.proofs.eight_joined.Tie as tie
 
 mul-low : tie.Need-mul-low
 mul-low c = search needs

@@ -2,10 +2,10 @@ use borrow.Author.Needs.{needs}
 use Prim.Native.Nat.{_-_}
 use native.Mathlib.Omega.{arith}
 use lib.ListN.{length}
-use Rattle.sparse_writer.specs.Sizes.{Skipped}
-use Rattle.sparse_writer.specs.SizeLaws.{none-skipped, many-skipped}
-use Rattle.sparse_writer.proofs.skip_eights.Statement.{statement}
-use Rattle.sparse_writer.proofs.skip_eights.Tie as tie
+use Rattle.nonzero_entries.specs.Entries.{Skipped}
+use Rattle.nonzero_entries.specs.EntryLaws.{none-skipped, many-skipped}
+use Rattle.nonzero_entries.proofs.skip_eights.Statement.{statement}
+use Rattle.nonzero_entries.proofs.skip_eights.Tie as tie
 
 abbrev Inv-loop : tie.InvT-loop
 Inv-loop table from code₀ code = Skipped table from code

@@ -1,0 +1,4 @@
+pub mod Codes
+pub mod Widths
+pub mod Paging
+pub mod PageLaws
