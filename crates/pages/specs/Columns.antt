@@ -1,8 +1,28 @@
--- The byte that is stored for a control.
+-- What writing the column of a set needs.
+use mathlib.Core.Path.{_≡_}
 use mathlib.Core.Bool.{cond}
-use Prim.Native.Nat.{ℕ}
+use mathlib.Core.List.{List, [], _∷_}
+use Prim.Native.Nat.{ℕ, _/_, _%_, _^_, _<_}
 use lib.Dec.{eqb}
+use lib.ListN.{length}
+use Rattle.definitions.specs.Pages.{Layout, labelLayout}
+use Rattle.label_theory.specs.Labels.{GoodLabels}
+use Rattle.label_sheet.specs.LabelArrays.{labelsIn, Held}
 
--- its letter if its bit is 1, else a blank
-abbrev pub letterOrBlank : ℕ → ℕ → ℕ
-letterOrBlank bit mark = cond (eqb bit 1) mark 32
+-- the lowest control of a set
+pub record Lowest (S i : ℕ) : Type 0 where
+  pub bit : S / 2 ^ i % 2 ≡ 1
+  pub none-below : (j : ℕ) → j < i → S / 2 ^ j % 2 ≡ 0
+
+-- what joins a label to those before it: nothing at the start of the column, else +
+abbrev pub joint : ℕ → ℕ → List ℕ
+joint first at = cond (eqb at first) [] (43 ∷ [])
+
+-- an array of labels, no two of which are the same
+pub record Ready (array : List ℕ) : Type 0 where
+  pub held : Held array
+  pub good : GoodLabels (labelsIn array)
+
+-- how pages are laid out with its labels
+abbrev pub layoutOf : List ℕ → Layout
+layoutOf array = labelLayout (labelsIn array)

@@ -1,17 +1,25 @@
-// The call that writes the wall pages of a table: a line for each entry that is not 0, with a letter for each control, 50 to a
-// page. The lines are counted before a byte is written, so that a refusal leaves the buffer as it came.
+// The call that writes the wall pages of a table: a line for each entry that is not 0, with the labels of its set's controls, 50 to a
+// page. The sheet is read and the lines are counted before a byte is written, so that a refusal leaves the buffer as it came.
 ghost use mathlib.Core.Path.{_≡_};
-ghost use Prim.Native.Nat.{_+_};
+ghost use Prim.Native.Nat.{_+_, _^_, _<_, _≤_};
 ghost use lib.ListN.{length};
+ghost use Rattle.definitions.specs.Limits.{mostControls, longestLabel};
+ghost use Rattle.definitions.specs.Sums.{at};
 ghost use Rattle.definitions.specs.Sets.{size};
-ghost use Rattle.definitions.specs.Refusals.{bufferWord};
-ghost use Rattle.definitions.specs.Pages.{filled, letters, letterLayout, lineOf, wallPages, pagesNumber, pagesWritten, pagesBuffer};
+ghost use Rattle.definitions.specs.Refusals.{orElse, bufferWord};
+ghost use Rattle.definitions.specs.Sheets.{sheetNumber};
+ghost use Rattle.definitions.specs.Pages.{filled, labelled, lineOf, pagesText, wallPages, pagesNumber, pagesWritten, pagesBuffer};
 ghost use Rattle.text_pieces.specs.Text.{Writes};
 ghost use Rattle.table_writer.specs.Writing.{MostEntries, TextBy};
+ghost use Rattle.label_sheet.specs.LabelArrays.{bytesOf, arrayLength, labelsIn};
 ghost use Rattle.page_text.specs.PageParts.{Room, LinesRoom, LinesWritten, PagesRoom};
-ghost use Rattle.pages.specs.Columns.{letterOrBlank};
+ghost use Rattle.pages.specs.Columns.{Lowest, joint, Ready, layoutOf};
 use checks::Checked;
 use checks::check_table;
+use label_sheet::ARRAY_LENGTH;
+use label_sheet::LABELS;
+use label_sheet::LONGEST_LABEL;
+use label_sheet::read_sheet;
 use nonzero_entries::next_entry;
 use page_text::PAGE_LINES;
 use page_text::Place;
@@ -20,33 +28,66 @@ use page_text::count_pages;
 use page_text::write_behind;
 use page_text::write_heading;
 use table_writer::Written;
-use text_pieces::BLANK;
 use text_pieces::write_blanks;
 
 // How wide the column of the set and the heading are.
-const COLUMN_WIDTH: usize = 16;
+const COLUMN_WIDTH: usize = 143;
 
-const HEADING_WIDTH: usize = 30;
+const HEADING_WIDTH: usize = 157;
 
 // The length of a line, and of a heading.
-const LINE_LENGTH: u32 = 31;
+const LINE_LENGTH: u32 = 158;
 
-// What stands for a control: its letter if its bit is 1, else a blank.
-fn letter_or_blank(bit: usize, letter: u8) -> u8
-    ensures { λ r. ⌜ r ≡ letterOrBlank bit letter ⌝ }
+// The lowest control of a set that is not empty.
+fn lowest_control(code: usize) -> usize
+    requires { ⌜ (0 < code) × (code < 2 ^ mostControls) ⌝ }
+    ensures { λ r. ⌜ Lowest code r ⌝ }
 {
-    if bit == 1 {
-        return letter;
-    }
-    BLANK
+    usize::trailing_zeros(code) as usize
 }
 
-// The letters of a set, filled with blanks; answers the size of the set, which is how many letters there are. The loop stores a
-// byte for each control, its letter or a blank over a blank, so that the choice needs no jump.
-fn write_column(code: usize, at: usize, out: &mut [u8]) -> usize
-    requires { ⌜ Room code 16 at (now out) ⌝ }
+// A + between two labels of the column that starts at `first`.
+fn write_joint(first: usize, at: usize, out: &mut [u8]) -> usize
+    requires { ⌜ at < length (now out) ⌝ }
+    ensures { λ r. ⌜ Writes (now (out .entry)) at (joint first at) r (now (out .exit)) ⌝ }
+{
+    if at == first {
+        return at;
+    }
+    out[at] = b'+';
+    at + 1
+}
+
+// The bytes of a name, a label filled with blanks; the compiler makes one store of them.
+fn write_name(name: u64, at: usize, out: &mut [u8])
+    requires { ⌜ at + longestLabel ≤ length (now out) ⌝ }
+    ensures { λ _. ⌜ Writes (now (out .entry)) at (bytesOf longestLabel name) (at + longestLabel) (now (out .exit)) ⌝ }
+{
+    let mut rest = name;
+    let mut i = 0;
+    while i < LONGEST_LABEL {
+        out[at + i] = (rest % 256) as u8;
+        rest /= 256;
+        i += 1;
+    }
+}
+
+// How many bytes the label of a control has.
+fn length_of(labels: &[u64], control: usize) -> usize
+    requires { ⌜ length (now labels) ≡ arrayLength ⌝ }
+    requires { ⌜ control < mostControls ⌝ }
+    ensures { λ r. ⌜ r ≡ at (now (labels .entry)) (mostControls + control) ⌝ }
+{
+    labels[LABELS + control] as usize
+}
+
+// The labels of a set, filled with blanks; answers the size of the set, which is how many labels there are. The loop goes from one
+// control of the set to the next and stores eight bytes for each: its label, and blanks over blanks.
+fn write_column(code: usize, labels: &[u64], at: usize, out: &mut [u8]) -> usize
+    requires { ⌜ Ready (now labels) ⌝ }
+    requires { ⌜ Room code 143 at (now out) ⌝ }
     ensures { λ r. ⌜ r ≡ size code ⌝ }
-    ensures { λ _. ⌜ Writes (now (out .entry)) at (filled 16 (letters code)) (at + 16) (now (out .exit)) ⌝ }
+    ensures { λ _. ⌜ Writes (now (out .entry)) at (filled 143 (labelled (labelsIn (now (labels .entry))) code)) (at + 143) (now (out .exit)) ⌝ }
 {
     write_blanks(at, at + COLUMN_WIDTH, out);
     if code == 0 {
@@ -54,37 +95,42 @@ fn write_column(code: usize, at: usize, out: &mut [u8]) -> usize
         return 0;
     }
     let mut rest = code;
+    let mut control = 0;
     let mut place = at;
-    let mut letter = b'a';
-    while letter <= b'p' {
-        let bit = rest % 2;
-        out[place] = letter_or_blank(bit, letter);
-        place += bit;
-        rest /= 2;
-        letter += 1;
+    let mut size = 0;
+    while 0 < rest {
+        control += lowest_control(rest);
+        let start = write_joint(at, place, out);
+        write_name(labels[control], start, out);
+        place = start + length_of(labels, control);
+        control += 1;
+        rest = code >> control;
+        size += 1;
     }
-    place - at
+    size
 }
 
 // The line of a set and its value.
-fn write_line(code: usize, value: u32, at: usize, out: &mut [u8]) -> usize
-    requires { ⌜ Room code 31 at (now out) ⌝ }
-    ensures { λ r. ⌜ Writes (now (out .entry)) at (lineOf letterLayout code value) r (now (out .exit)) ⌝ }
+fn write_line(code: usize, value: u32, labels: &[u64], at: usize, out: &mut [u8]) -> usize
+    requires { ⌜ Ready (now labels) ⌝ }
+    requires { ⌜ Room code 158 at (now out) ⌝ }
+    ensures { λ r. ⌜ Writes (now (out .entry)) at (lineOf (layoutOf (now (labels .entry))) code value) r (now (out .exit)) ⌝ }
 {
-    let size = write_column(code, at, out);
+    let size = write_column(code, labels, at, out);
     write_behind(size as u32, value, at + COLUMN_WIDTH, out)
 }
 
 // The lines of a page, for the entries from a code on that are not 0.
-fn write_lines(table: &[u32], first: usize, at: usize, out: &mut [u8]) -> Place
-    requires { ⌜ LinesRoom 31 (now table) first at (now out) ⌝ }
-    ensures { λ r. ⌜ LinesWritten letterLayout (now (table .entry)) first (now (out .entry)) at r (now (out .exit)) ⌝ }
+fn write_lines(table: &[u32], labels: &[u64], first: usize, at: usize, out: &mut [u8]) -> Place
+    requires { ⌜ Ready (now labels) ⌝ }
+    requires { ⌜ LinesRoom 158 (now table) first at (now out) ⌝ }
+    ensures { λ r. ⌜ LinesWritten (layoutOf (now (labels .entry))) (now (table .entry)) first (now (out .entry)) at r (now (out .exit)) ⌝ }
 {
     let mut place = at;
     let mut code = next_entry(table, first);
     let mut left = PAGE_LINES;
     while code < table.len() && 0 < left {
-        place = write_line(code, table[code], place, out);
+        place = write_line(code, table[code], labels, place, out);
         left -= 1;
         code = next_entry(table, code + 1);
     }
@@ -95,16 +141,17 @@ fn write_lines(table: &[u32], first: usize, at: usize, out: &mut [u8]) -> Place
 }
 
 // All pages; `pages` is how many there are.
-fn write_all(pages: u32, table: &[u32], out: &mut [u8]) -> usize
-    requires { ⌜ PagesRoom letterLayout (now table) pages (now out) ⌝ }
-    ensures { λ r. ⌜ Writes (now (out .entry)) 0 (wallPages (now (table .entry))) r (now (out .exit)) ⌝ }
+fn write_all(pages: u32, table: &[u32], labels: &[u64], out: &mut [u8]) -> usize
+    requires { ⌜ Ready (now labels) ⌝ }
+    requires { ⌜ PagesRoom (layoutOf (now labels)) (now table) pages (now out) ⌝ }
+    ensures { λ r. ⌜ Writes (now (out .entry)) 0 (pagesText (layoutOf (now (labels .entry))) (now (table .entry))) r (now (out .exit)) ⌝ }
 {
     let mut place = 0;
     let mut code = 0;
     let mut page: u32 = 0;
     while page < pages {
         let lines = write_heading(HEADING_WIDTH, page + 1, pages, place, out);
-        let end = write_lines(table, code, lines, out);
+        let end = write_lines(table, labels, code, lines, out);
         place = end.next;
         code = end.code;
         page += 1;
@@ -113,9 +160,10 @@ fn write_all(pages: u32, table: &[u32], out: &mut [u8]) -> usize
 }
 
 // Writes the pages of a table if the buffer has room for them.
-fn write_checked(table: &[u32], buffer: &mut [u8]) -> Written
+fn write_checked(table: &[u32], labels: &[u64], buffer: &mut [u8]) -> Written
+    requires { ⌜ Ready (now labels) ⌝ }
     requires { ⌜ MostEntries (length (now table)) ⌝ }
-    ensures { λ r. ⌜ TextBy (wallPages (now (table .entry))) (bufferWord (length (now (buffer .entry))) (length (wallPages (now (table .entry))))) (now (buffer .entry)) r (now (buffer .exit)) ⌝ }
+    ensures { λ r. ⌜ TextBy (pagesText (layoutOf (now (labels .entry))) (now (table .entry))) (bufferWord (length (now (buffer .entry))) (length (pagesText (layoutOf (now (labels .entry))) (now (table .entry))))) (now (buffer .entry)) r (now (buffer .exit)) ⌝ }
 {
     let lines = count_lines(table);
     let pages = count_pages(lines);
@@ -123,21 +171,34 @@ fn write_checked(table: &[u32], buffer: &mut [u8]) -> Written
     if buffer.len() < (count as usize) {
         return Written::refused(10);
     }
-    write_all(pages, table, buffer);
+    write_all(pages, table, labels, buffer);
     Written {
         number: 0,
         count: count,
     }
 }
 
-// The pages of a table into the start of the buffer.
-pub fn write_pages(n: u32, m: u32, table: &[u32], buffer: &mut [u8]) -> Written
-    ensures { λ r. ⌜ r .number ≡ pagesNumber n m (now (table .entry)) (length (now (buffer .entry))) ⌝ }
-    ensures { λ r. ⌜ r .count ≡ pagesWritten n m (now (table .entry)) (length (now (buffer .entry))) ⌝ }
-    ensures { λ _. ⌜ now (buffer .exit) ≡ pagesBuffer n m (now (table .entry)) (now (buffer .entry)) ⌝ }
+// Writes the pages of a table if the sheet is accepted and the buffer has room for them.
+fn write_labelled(table: &[u32], sheet: &[u8], buffer: &mut [u8]) -> Written
+    requires { ⌜ MostEntries (length (now table)) ⌝ }
+    ensures { λ r. ⌜ TextBy (wallPages (now (sheet .entry)) (now (table .entry))) (orElse (sheetNumber (now (sheet .entry))) (bufferWord (length (now (buffer .entry))) (length (wallPages (now (sheet .entry)) (now (table .entry)))))) (now (buffer .entry)) r (now (buffer .exit)) ⌝ }
+{
+    let mut labels = [0u64; ARRAY_LENGTH];
+    let word = read_sheet(sheet, &mut labels);
+    if word != 0 {
+        return Written::refused(word);
+    }
+    write_checked(table, &labels, buffer)
+}
+
+// The pages of a table, with the labels of a sheet, into the start of the buffer.
+pub fn write_pages(n: u32, m: u32, table: &[u32], sheet: &[u8], buffer: &mut [u8]) -> Written
+    ensures { λ r. ⌜ r .number ≡ pagesNumber n m (now (table .entry)) (now (sheet .entry)) (length (now (buffer .entry))) ⌝ }
+    ensures { λ r. ⌜ r .count ≡ pagesWritten n m (now (table .entry)) (now (sheet .entry)) (length (now (buffer .entry))) ⌝ }
+    ensures { λ _. ⌜ now (buffer .exit) ≡ pagesBuffer n m (now (table .entry)) (now (sheet .entry)) (now (buffer .entry)) ⌝ }
 {
     match check_table(n, m, table) {
-        Checked::Accepted(_) => write_checked(table, buffer),
+        Checked::Accepted(_) => write_labelled(table, sheet, buffer),
         Checked::Refused(word) => Written::refused(word),
     }
 }
