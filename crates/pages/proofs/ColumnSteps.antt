@@ -5,13 +5,13 @@ use mathlib.Core.List.{List, [], _∷_, _++_, map, append-nil, append-assoc, map
 use mathlib.Core.Logic.{⊎-elim, _≢_}
 use Prim.Native.Nat.{ℕ, zero, suc, _+_, _*_, _-_, _/_, _%_, _^_, _<_, _≤_}
 use native.Mathlib.Numerals.{add-one}
-use native.Mathlib.Nat.{div-eq-of-lt, div-lt-iff-lt-mul}
+use native.Mathlib.Nat.{div-eq-of-lt, mul-assoc, mul-comm, pow-suc}
 use native.Mathlib.Omega.{arith}
-use lib.Count.{ones, ones-step, ones-le, under, trailingZeros}
+use lib.Bits.{bitAnd}
+use lib.Count.{ones}
 use lib.Dec.{eqb}
-use lib.ListN.{length, set, length-set, length-append, length-replicate, replicate-append-replicate}
-use lib.Pow.{pow-mono, shr-le, shr-shr}
-use lib.Seq.{sets}
+use lib.ListN.{length, set, length-append, length-replicate, replicate-append-replicate}
+use lib.Pow.{pow-mono, pow-add, shl-shr, shr-le, shr-shr, split}
 use borrow.Author.Tests.{eq-eqb, ne-eqb}
 use Rattle.definitions.specs.Limits.{mostControls, longestLabel}
 use Rattle.definitions.specs.Sums.{tabulate, keep, at}
@@ -21,126 +21,20 @@ use Rattle.definitions.specs.Pages.{blanks, filled, has, controlsOf, joined, la
 use Rattle.theory.specs.Tests.{below-or, zero-is-not-one}
 use Rattle.theory.specs.Lists.{length-tabulate}
 use Rattle.text_pieces.specs.Text.{Writes}
-use Rattle.text_pieces.specs.TextLaws.{writes-same, writes-one, writes-none, writes-inside, writes-again, writes-there, writes-length}
+use Rattle.text_pieces.specs.TextLaws.{writes-same, writes-one, writes-inside, writes-again, writes-there, writes-length}
 use Rattle.page_theory.specs.Codes.{keep-snoc, keep-few}
 use Rattle.page_theory.specs.Widths.{length-filled}
-use Rattle.label_theory.specs.Labels.{GoodLabel}
-use Rattle.label_theory.specs.Columns.{AllBelow, kept-below, joined-few, labelled-few}
+use Rattle.label_theory.specs.Labels.{GoodLabel, GoodLabels}
+use Rattle.label_theory.specs.Columns.{AllBelow, kept-below, labelled-few}
 use Rattle.label_sheet.specs.LabelArrays.{nameOf, bytesOf, labelsIn}
 use Rattle.label_sheet.specs.ArrayLaws.{name-bytes}
-use Rattle.page_text.specs.PageParts.{Room}
+use Rattle.pages.proofs.ControlSteps.{without-lowest, size-without}
 use Rattle.pages.specs.Columns.{Lowest, joint, Ready}
-
--- ---- the lowest control
-
-module _ (k n : ℕ) (more : 0 < n / 2 → n / 2 < 2 ^ k → Lowest (n / 2) (trailingZeros k (n / 2))) where
-  halved : (j : ℕ) → n / 2 ^ suc j ≡ n / 2 / 2 ^ j
-  halved j =
-      let e : 1 + j ≡ suc j = omega arith in
-      sym (shr-shr n 1 j ∙ ap (λ (i : ℕ). n / 2 ^ i) e)
-
-  none-to : (t : ℕ) → n % 2 ≡ 0 → Lowest (n / 2) t → (j : ℕ) → j < suc t → n / 2 ^ j % 2 ≡ 0
-  none-to t e l zero h = omega arith
-  none-to t e l (suc j) h = ap (λ (x : ℕ). x % 2) (halved j) ∙ l .none-below j (omega arith)
-
-  by-last : (r : ℕ) → n % 2 ≡ r → 0 < n → n < 2 ^ suc k → Lowest n (under r (trailingZeros k (n / 2)))
-  by-last zero e p h =
-      let l = more (omega arith) (omega arith) in
-      record {
-        bit = ap (λ (x : ℕ). x % 2) (halved (trailingZeros k (n / 2))) ∙ l .bit;
-        none-below = none-to (trailingZeros k (n / 2)) e l;
-      }
-  by-last (suc r) e p h = record { bit = omega arith; none-below = λ j l. absurd (omega arith) }
-
-pub lowest : (k n : ℕ) → 0 < n → n < 2 ^ k → Lowest n (trailingZeros k n)
-unfolding trailingZeros
-lowest zero n p h = absurd (omega arith)
-lowest (suc k) n p h = by-last k n (λ q g. lowest k (n / 2) q g) (n % 2) refl p h
-
--- it is one control, and the others are behind it
-pub one-control : (i n : ℕ) → Lowest n i → ones n ≡ ones (n / 2 ^ (i + 1)) + 1
-one-control zero n l = let b = l .bit in omega (arith, ones-step n)
-one-control (suc i) n l =
-    let even : n % 2 ≡ 0 = let b = l .none-below 0 (omega arith) in omega arith in
-    let e : 1 + (i + 1) ≡ suc i + 1 = omega arith in
-    let rest : ones (n / 2) ≡ ones (n / 2 / 2 ^ (i + 1)) + 1 = one-control i (n / 2) (record {
-      bit = ap (λ (x : ℕ). x % 2) (halved i) ∙ l .bit;
-      none-below = λ j h. ap (λ (x : ℕ). x % 2) (halved j) ∙ l .none-below (suc j) (omega arith);
-    }) in
-    omega (arith, ones-step n, ap ones (shr-shr n 1 (i + 1) ∙ ap (λ (k : ℕ). n / 2 ^ k) e))
-  where
-    halved : (j : ℕ) → n / 2 / 2 ^ j ≡ n / 2 ^ suc j
-    halved j =
-        let e : 1 + j ≡ suc j = omega arith in
-        shr-shr n 1 j ∙ ap (λ (k : ℕ). n / 2 ^ k) e
-
--- ---- the joint in front of a label, and the bytes of its name
-
-pub joint-none : {first at : ℕ} {old : List ℕ} → at ≡ first → at < length old → Writes old at (joint first at) at old
-joint-none {first} {at} {old} e h = rw (eq-eqb at first e) (writes-none old at (omega arith))
-
-pub joint-one : {first at : ℕ} {old : List ℕ} → at ≢ first → at < length old → Writes old at (joint first at) (at + 1) (set old at 43)
-joint-one {first} {at} {old} d h = rw (ne-eqb at first d) (writes-one old at 43 h)
-
--- what is stored and what is left to store make the whole
-pub record NameSoFar (name at : ℕ) (old out : List ℕ) (rest i : ℕ) : Type 0 where
-  pub most : i ≤ longestLabel
-  pub long : length out ≡ length old
-  pub whole : sets out (at + i) (bytesOf (longestLabel - i) rest) ≡ sets old at (bytesOf longestLabel name)
-
-pub name-start : (name at : ℕ) (old : List ℕ) → NameSoFar name at old old name 0
-name-start name at old = record {
-  most = omega arith;
-  long = refl;
-  whole = ap (λ (k : ℕ). sets old k (bytesOf longestLabel name)) (let e : at + 0 ≡ at = omega arith in e);
-}
-
-bytes-more : (k v : ℕ) → bytesOf (suc k) v ≡ (v % 256) ∷ bytesOf k (v / 256)
-unfolding bytesOf
-bytes-more k v = refl
-
-bytes-length : (k v : ℕ) → length (bytesOf k v) ≡ k
-unfolding bytesOf
-bytes-length zero v = refl
-bytes-length (suc k) v = ap suc (bytes-length k (v / 256))
-
-no-bytes : (v : ℕ) → bytesOf 0 v ≡ []
-unfolding bytesOf
-no-bytes v = refl
-
-module _ {name at : ℕ} {old out : List ℕ} {rest i : ℕ} (s : NameSoFar name at old out rest i) where
-  pub name-more : i < longestLabel → NameSoFar name at old (set out (at + i) (rest % 256)) (rest / 256) (i + 1)
-  name-more h = record {
-    most = omega arith;
-    long = length-set out (at + i) (rest % 256) ∙ s .long;
-    whole =
-        ap (λ (k : ℕ). sets (set out (at + i) (rest % 256)) k (bytesOf (longestLabel - (i + 1)) (rest / 256))) behind
-        ∙ ap (sets out (at + i)) (sym (bytes-more (longestLabel - (i + 1)) rest) ∙ ap (λ (k : ℕ). bytesOf k rest) left)
-        ∙ s .whole;
-  }
-    where
-      behind : at + (i + 1) ≡ suc (at + i)
-      behind = omega arith
-
-      left : suc (longestLabel - (i + 1)) ≡ longestLabel - i
-      left = omega arith
-
-  pub name-all : longestLabel ≤ i → at + longestLabel ≤ length old → Writes old at (bytesOf longestLabel name) (at + longestLabel) out
-  name-all h room =
-      let all : longestLabel - i ≡ 0 = omega arith in
-      record {
-        next-is = ap (λ (k : ℕ). at + k) (sym (bytes-length longestLabel name));
-        text-is = sym (ap (sets out (at + i)) (ap (λ (k : ℕ). bytesOf k rest) all ∙ no-bytes rest)) ∙ s .whole;
-        within = omega (arith, s .long);
-      }
 
 -- ---- the labels of the controls below i
 
 unfoldable pub partsTo : List (List ℕ) → ℕ → ℕ → List (List ℕ)
 partsTo ls S i = map (labelOf ls) (keep (has S) (tabulate i (λ j. j)))
-
-abbrev textTo : List (List ℕ) → ℕ → ℕ → List ℕ
-textTo ls S i = joined (partsTo ls S i)
 
 map-cond : (f : ℕ → List ℕ) (t : Bool) (x : ℕ) → map f (cond t (x ∷ []) []) ≡ cond t (f x ∷ []) []
 map-cond f true x = refl
@@ -162,57 +56,71 @@ parts-skip ls S i (suc k) h =
     ∙ append-nil (partsTo ls S (i + k))
     ∙ parts-skip ls S i k (λ j l. h j (omega arith))
 
-parts-none : (ls : List (List ℕ)) (S : ℕ) → textTo ls S 0 ≡ []
-unfolding partsTo tabulate keep joined
+parts-none : (ls : List (List ℕ)) (S : ℕ) → partsTo ls S 0 ≡ []
+unfolding partsTo tabulate keep
 parts-none ls S = refl
 
--- ---- joined with one more
+-- ---- labels one after the other
 
--- every text has bytes
-abbrev AllSome : List (List ℕ) → Type 0
-AllSome [] = Unit {0}
-AllSome (l ∷ ls) = (1 ≤ length l) × AllSome ls
+-- each with a + behind it
+unfoldable pub marked : List (List ℕ) → List ℕ
+marked [] = []
+marked (l ∷ ls) = l ++ (43 ∷ marked ls)
 
-joined-more : (l : List ℕ) (ls : List (List ℕ)) (x : List ℕ) → joined ((l ∷ ls) ++ (x ∷ [])) ≡ joined (l ∷ ls) ++ (43 ∷ x)
-unfolding joined
-joined-more l [] x = refl
-joined-more l (k ∷ ls) x =
-    ap (λ (t : List ℕ). l ++ (43 ∷ t)) (joined-more k ls x) ∙ sym (append-assoc l (43 ∷ joined (k ∷ ls)) (43 ∷ x))
+-- as they stand in the column while controls are left, and when none is
+abbrev pub linked : ℕ → List (List ℕ) → List ℕ
+linked rest ls = cond (eqb rest 0) (joined ls) (marked ls)
 
-joined-some : (l : List ℕ) (ls : List (List ℕ)) → AllSome (l ∷ ls) → 1 ≤ length (joined (l ∷ ls))
-unfolding joined
-joined-some l [] s = s .0
-joined-some l (k ∷ ls) s = omega (arith, s .0, length-append l (43 ∷ joined (k ∷ ls)))
+marked-more : (ls : List (List ℕ)) (x : List ℕ) → marked (ls ++ (x ∷ [])) ≡ (marked ls ++ x) ++ (43 ∷ [])
+unfolding marked
+marked-more [] x = refl
+marked-more (l ∷ ls) x =
+    ap (λ (t : List ℕ). l ++ (43 ∷ t)) (marked-more ls x)
+    ∙ sym (ap (λ (t : List ℕ). t ++ (43 ∷ [])) (append-assoc l (43 ∷ marked ls) x) ∙ append-assoc l (43 ∷ (marked ls ++ x)) (43 ∷ []))
 
-first-joint : (x : List ℕ) (first place : ℕ) → place ≡ first + length (joined []) → joined (x ∷ []) ≡ (joined [] ++ joint first place) ++ x
-unfolding joined
-first-joint x first place e = rw (eq-eqb place first (omega arith))
+joined-more : (ls : List (List ℕ)) (x : List ℕ) → joined (ls ++ (x ∷ [])) ≡ marked ls ++ x
+unfolding joined marked
+joined-more [] x = refl
+joined-more (l ∷ []) x = sym (append-assoc l (43 ∷ []) x)
+joined-more (l ∷ k ∷ ls) x =
+    ap (λ (t : List ℕ). l ++ (43 ∷ t)) (joined-more (k ∷ ls) x) ∙ sym (append-assoc l (43 ∷ marked (k ∷ ls)) x)
 
-joined-one : (ls : List (List ℕ)) (x : List ℕ) (first place : ℕ) → AllSome ls → place ≡ first + length (joined ls) →
-    joined (ls ++ (x ∷ [])) ≡ (joined ls ++ joint first place) ++ x
-joined-one [] x first place s e = first-joint x first place e
-joined-one (l ∷ ls) x first place s e =
-    joined-more l ls x ∙ sym (append-assoc (joined (l ∷ ls)) (43 ∷ []) x)
-    ∙ ap (λ (b : Bool). (joined (l ∷ ls) ++ cond b [] (43 ∷ [])) ++ x)
-    (sym (ne-eqb place first (λ (f : place ≡ first). omega (arith, joined-some l ls s))))
+linked-more : (rest : ℕ) (ls : List (List ℕ)) (x : List ℕ) → linked rest (ls ++ (x ∷ [])) ≡ (marked ls ++ x) ++ joint rest
+linked-more rest ls x = by (eqb rest 0)
+  where
+    by : (b : Bool) → cond b (joined (ls ++ (x ∷ []))) (marked (ls ++ (x ∷ []))) ≡ (marked ls ++ x) ++ cond b [] (43 ∷ [])
+    by true = joined-more ls x ∙ sym (append-nil (marked ls ++ x))
+    by false = marked-more ls x
 
-joint-few : (first place : ℕ) → length (joint first place) ≤ 1
-joint-few first place = by (eqb place first)
+joint-most : (rest : ℕ) → length (joint rest) ≤ 1
+joint-most rest = by (eqb rest 0)
   where
     by : (b : Bool) → length {A = ℕ} (cond b [] (43 ∷ [])) ≤ 1
     by true = omega arith
     by false = omega arith
 
-no-joint : (first place : ℕ) → place ≡ first → length (joint first place) ≡ 0
-no-joint first place e = rw (eq-eqb place first e)
+linked-none : (rest : ℕ) → linked rest [] ≡ []
+unfolding joined marked
+linked-none rest = by (eqb rest 0)
+  where
+    by : (b : Bool) → cond b (joined []) (marked []) ≡ []
+    by true = refl
+    by false = refl
+
+marked-few : (ls : List (List ℕ)) → GoodLabels ls → (cs : List ℕ) → AllBelow mostControls cs →
+    length (marked (map (labelOf ls) cs)) ≤ 9 * length cs
+unfolding marked
+marked-few ls good [] b = omega arith
+marked-few ls good (c ∷ cs) b =
+    omega (arith, length-append (labelOf ls c) (43 ∷ marked (map (labelOf ls) cs)), good .each c (b .0) .short, marked-few ls good cs (b .1))
 
 -- ---- a piece over the blanks behind a text
 
 module _ (w : ℕ) (text l : List ℕ) (k : ℕ) {piece : List ℕ} (is : piece ≡ l ++ blanks k) where
   module _ (m : ℕ) (all : length text + length piece + m ≡ w) where
-    split : filled w text ≡ text ++ (blanks (length piece) ++ blanks m)
+    in-two : filled w text ≡ text ++ (blanks (length piece) ++ blanks m)
     unfolding filled
-    split =
+    in-two =
         let e : w - length text ≡ length piece + m = omega arith in
         ap (λ (j : ℕ). text ++ blanks j) e ∙ ap (λ (t : List ℕ). text ++ t) (sym (replicate-append-replicate (length piece) m 32))
 
@@ -233,7 +141,7 @@ module _ (w : ℕ) (text l : List ℕ) (k : ℕ) {piece : List ℕ} (is : piece 
       let m = w - length text - length piece in
       let all : length text + length piece + m ≡ w = omega arith in
       writes-same (longer m all)
-      (writes-inside text (blanks (length piece)) piece (blanks m) e (length-replicate (length piece) 32) (writes-same (split m all) v) p)
+      (writes-inside text (blanks (length piece)) piece (blanks m) e (length-replicate (length piece) 32) (writes-same (in-two m all) v) p)
 
 name-filled : (l : List ℕ) → GoodLabel l → bytesOf longestLabel (nameOf l) ≡ l ++ blanks (longestLabel - length l)
 unfolding filled
@@ -267,149 +175,184 @@ size-none = refl
 pub no-size : (S : ℕ) → S ≡ 0 → 0 ≡ size S
 no-size S e = sym (ap size e ∙ size-none)
 
--- the labels of the controls before one stand in the column, and blanks behind them
-pub record ColumnSoFar (S : ℕ) (array : List ℕ) (first : ℕ) (old out : List ℕ) (rest control place count : ℕ) : Type 0 where
+-- the labels of the controls below one stand in the column, and blanks behind them; the controls from that one on are left
+pub record ColumnSoFar (S : ℕ) (array : List ℕ) (first : ℕ) (old out : List ℕ) (rest place count : ℕ) : Type 0 where
+  pub control : ℕ
   pub most : control ≤ mostControls
-  pub rest-is : rest ≡ S / 2 ^ control
+  pub rest-is : rest ≡ S / 2 ^ control * 2 ^ control
   pub counted : count + size rest ≡ size S
-  pub place-is : place ≡ first + length (textTo (labelsIn array) S control)
-  pub writes : Writes old first (filled 143 (textTo (labelsIn array) S control)) (first + 143) out
+  pub place-is : place ≡ first + length (linked rest (partsTo (labelsIn array) S control))
+  pub writes : Writes old first (filled 143 (linked rest (partsTo (labelsIn array) S control))) (first + 143) out
 
 -- the blanks are there already
 pub column-start : (S : ℕ) (array : List ℕ) (first : ℕ) {old blank : List ℕ} → Writes old first (blanks 143) (first + 143) blank →
-    ColumnSoFar S array first blank blank S 0 first 0
-column-start S array first w = record {
-  most = omega arith;
-  rest-is = omega arith;
-  counted = omega arith;
-  place-is = omega (arith, ap length (parts-none (labelsIn array) S));
-  writes = writes-same (sym (ap (filled 143) (parts-none (labelsIn array) S) ∙ nothing-yet)) (writes-there w);
-}
+    ColumnSoFar S array first blank blank S first 0
+column-start S array first w =
+    let none : linked S (partsTo (labelsIn array) S 0) ≡ [] = ap (linked S) (parts-none (labelsIn array) S) ∙ linked-none S in
+    record {
+      control = 0;
+      most = omega arith;
+      rest-is = omega arith;
+      counted = omega arith;
+      place-is = omega (arith, ap length none);
+      writes = writes-same (sym (ap (filled 143) none ∙ nothing-yet)) (writes-there w);
+    }
 
-module _ {S : ℕ} {array : List ℕ} {first : ℕ} {old out : List ℕ} {rest control place count : ℕ}
-    (s : ColumnSoFar S array first old out rest control place count) (ready : Ready array) (small : S < 2 ^ mostControls) where
+module _ {S : ℕ} {array : List ℕ} {first : ℕ} {old out : List ℕ} {rest place count : ℕ}
+    (s : ColumnSoFar S array first old out rest place count) (ready : Ready array) (small : S < 2 ^ mostControls) where
   abbrev ls : List (List ℕ)
   ls = labelsIn array
 
-  bit-at : (j : ℕ) → rest / 2 ^ j ≡ S / 2 ^ (control + j)
-  bit-at j = ap (λ (x : ℕ). x / 2 ^ j) (s .rest-is) ∙ shr-shr S control j
+  abbrev done : List (List ℕ)
+  done = partsTo ls S (s .control)
 
   pub rest-small : rest < 2 ^ mostControls
-  rest-small = omega (arith, s .rest-is, shr-le S control)
+  rest-small = omega (arith, s .rest-is, split S (s .control))
 
-  module _ {i : ℕ} (l : Lowest rest i) where
-    abbrev next : ℕ
-    next = control + i
+  -- the controls that are left are those of S from the next one on
+  high : (j : ℕ) → s .control ≤ j → rest / 2 ^ j ≡ S / 2 ^ j
+  high j h =
+      let c = s .control in
+      let e : c + (j - c) ≡ j = omega arith in
+      ap (λ (k : ℕ). rest / 2 ^ k) (sym e) ∙ sym (shr-shr rest c (j - c))
+      ∙ ap (λ (x : ℕ). x / 2 ^ (j - c)) (ap (λ (x : ℕ). x / 2 ^ c) (s .rest-is) ∙ shl-shr (S / 2 ^ c) c)
+      ∙ shr-shr S c (j - c) ∙ ap (λ (k : ℕ). S / 2 ^ k) e
 
-    next-bit : S / 2 ^ next % 2 ≡ 1
-    next-bit = ap (λ (x : ℕ). x % 2) (sym (bit-at i)) ∙ l .bit
+  low : (j : ℕ) → j < s .control → rest / 2 ^ j % 2 ≡ 0
+  low j h =
+      let c = s .control in
+      let q = S / 2 ^ c * 2 ^ (c - (j + 1)) in
+      let e : c ≡ c - (j + 1) + suc j = omega arith in
+      let p : rest ≡ q * 2 * 2 ^ j =
+      s .rest-is ∙ ap (λ (k : ℕ). S / 2 ^ c * 2 ^ k) e ∙ ap (λ (x : ℕ). S / 2 ^ c * x) (pow-add 2 (c - (j + 1)) (suc j))
+      ∙ sym (mul-assoc (S / 2 ^ c) (2 ^ (c - (j + 1))) (2 ^ suc j))
+      ∙ ap (λ (x : ℕ). q * x) (pow-suc 2 j ∙ mul-comm (2 ^ j) 2) ∙ sym (mul-assoc q 2 (2 ^ j)) in
+      ap (λ (x : ℕ). x % 2) (ap (λ (x : ℕ). x / 2 ^ j) p ∙ shl-shr (q * 2) j) ∙ (let z : q * 2 % 2 ≡ 0 = omega arith in z)
 
-    pub next-below : next < mostControls
-    next-below = ⊎-elim
-        (λ (h : next < mostControls). h)
-        (λ (h : mostControls ≤ next).
-        let large : 2 ^ mostControls ≤ 2 ^ next = pow-mono {j = next} h in
-        let none : S / 2 ^ next ≡ 0 = div-eq-of-lt (omega arith) in
-        absurd (zero-is-not-one (omega (arith, next-bit))))
-        (below-or next mostControls)
+  module _ (some : 0 < rest) {i : ℕ} (l : Lowest rest i) where
+    behind : s .control ≤ i
+    behind = ⊎-elim
+        (λ (h : i < s .control). absurd (zero-is-not-one (sym (low i h) ∙ l .bit)))
+        (λ (h : s .control ≤ i). h)
+        (below-or i (s .control))
 
-    same-parts : partsTo ls S next ≡ partsTo ls S control
-    same-parts = parts-skip ls S control i (λ j h.
-        ne-eqb (S / 2 ^ (control + j) % 2) 1 (λ (e : S / 2 ^ (control + j) % 2 ≡ 1). omega (arith, l .none-below j h, ap (λ (x : ℕ). x % 2) (bit-at j))))
+    next-bit : S / 2 ^ i % 2 ≡ 1
+    next-bit = ap (λ (x : ℕ). x % 2) (sym (high i behind)) ∙ l .bit
 
-    more-parts : partsTo ls S (next + 1) ≡ partsTo ls S control ++ (labelOf ls next ∷ [])
+    -- the codes of the panel have no control from 16 on
+    below-most : (j : ℕ) → (S / 2 ^ j ≡ 0 → ⊥) → j < mostControls
+    below-most j d = ⊎-elim
+        (λ (h : j < mostControls). h)
+        (λ (h : mostControls ≤ j).
+        let large : 2 ^ mostControls ≤ 2 ^ j = pow-mono {j = j} h in
+        absurd (d (div-eq-of-lt (omega arith))))
+        (below-or j mostControls)
+
+    pub next-below : i < mostControls
+    next-below = below-most i (λ (e : S / 2 ^ i ≡ 0). omega (arith, next-bit))
+
+    more-parts : partsTo ls S (i + 1) ≡ done ++ (labelOf ls i ∷ [])
     more-parts =
-        ap (partsTo ls S) (add-one next) ∙ parts-step ls S next
-        ∙ ap (λ (b : Bool). partsTo ls S next ++ cond b (labelOf ls next ∷ []) []) (eq-eqb (S / 2 ^ next % 2) 1 next-bit)
-        ∙ ap (λ (t : List (List ℕ)). t ++ (labelOf ls next ∷ [])) same-parts
+        let c = s .control in
+        let e : c + (i - c) ≡ i = omega (arith, behind) in
+        let same : partsTo ls S i ≡ done =
+        ap (partsTo ls S) (sym e) ∙ parts-skip ls S c (i - c) (λ j h.
+        ne-eqb (S / 2 ^ (c + j) % 2) 1 (λ (f : S / 2 ^ (c + j) % 2 ≡ 1). omega (arith, l .none-below (c + j) (omega arith), ap (λ (x : ℕ). x % 2) (high (c + j) (omega arith))))) in
+        ap (partsTo ls S) (add-one i) ∙ parts-step ls S i
+        ∙ ap (λ (b : Bool). partsTo ls S i ++ cond b (labelOf ls i ∷ []) []) (eq-eqb (S / 2 ^ i % 2) 1 next-bit)
+        ∙ ap (λ (t : List (List ℕ)). t ++ (labelOf ls i ∷ [])) same
 
-    some-of : (cs : List ℕ) → AllBelow mostControls cs → AllSome (map (labelOf ls) cs)
-    some-of [] b = tt
-    some-of (c ∷ cs) b = (ready .good .each c (b .0) .some, some-of cs (b .1))
-
-    parts-some : AllSome (partsTo ls S control)
-    unfolding partsTo
-    parts-some = some-of (keep (has S) (tabulate control (λ j. j))) (kept-below (has S) control (s .most))
-
-    more-text : textTo ls S (next + 1) ≡ (textTo ls S control ++ joint first place) ++ labelOf ls next
-    more-text = ap joined more-parts ∙ joined-one (partsTo ls S control) (labelOf ls next) first place parts-some (s .place-is)
-
-    text-few : (cs : List ℕ) → AllBelow mostControls cs → place ≡ first + length (joined (map (labelOf ls) cs)) →
-        length (joined (map (labelOf ls) cs)) + length (joint first place) ≤ 9 * length cs
-    unfolding joined
-    text-few [] b e = omega (arith, no-joint first place (omega arith))
-    text-few (c ∷ cs) b e = omega (arith, joined-few ls (ready .good) c cs b, joint-few first place)
-
-    -- what is before the label: first most nine bytes for each control before it
-    before-few : length (textTo ls S control) + length (joint first place) ≤ 135
+    -- nine bytes at most for each control before this one
+    before-few : length (marked done) ≤ 9 * i
     unfolding partsTo
     before-few =
         omega (
           arith,
-          text-few (keep (has S) (tabulate control (λ j. j))) (kept-below (has S) control (s .most)) (s .place-is),
-          keep-few (has S) (tabulate control (λ j. j)),
-          length-tabulate control (λ j. j),
-          next-below,
+          marked-few ls (ready .good) (keep (has S) (tabulate (s .control) (λ j. j))) (kept-below (has S) (s .control) (s .most)),
+          keep-few (has S) (tabulate (s .control) (λ j. j)),
+          length-tabulate (s .control) (λ j. j),
+          behind,
         )
 
+    text-is : linked rest done ≡ marked done
+    text-is = rw (ne-eqb rest 0 (λ (e : rest ≡ 0). omega arith))
+
+    place-at : place ≡ first + length (marked done)
+    place-at = s .place-is ∙ ap (λ (t : List ℕ). first + length t) text-is
+
+    -- the controls that are left then
+    rest-next : bitAnd rest (rest - 1) ≡ S / 2 ^ (i + 1) * 2 ^ (i + 1)
+    rest-next = without-lowest i rest some l ∙ ap (λ (x : ℕ). x * 2 ^ (i + 1)) (high (i + 1) (omega (arith, behind)))
+
+    label-short : length (labelOf ls i) ≤ longestLabel
+    label-short = ready .good .each i next-below .short
+
+    joint-few : length (marked done) + length (labelOf ls i) + length (joint (bitAnd rest (rest - 1))) ≤ 143
+    joint-few = by (bitAnd rest (rest - 1)) rest-next
+      where
+        by : (k : ℕ) → k ≡ S / 2 ^ (i + 1) * 2 ^ (i + 1) → length (marked done) + length (labelOf ls i) + length (joint k) ≤ 143
+        by zero e = omega (arith, before-few, next-below, label-short)
+        by (suc k) e =
+            let more = below-most (i + 1) (λ (z : S / 2 ^ (i + 1) ≡ 0). omega (arith, ap (λ (x : ℕ). x * 2 ^ (i + 1)) z)) in
+            omega (arith, before-few, more, label-short, joint-most (suc k))
+
     module _ (room : first + 143 ≤ length old) where
-      pub joint-room : place < length out
-      joint-room = omega (arith, s .place-is, before-few, writes-length (s .writes))
+      pub name-room : place + longestLabel ≤ length out
+      name-room = omega (arith, place-at, before-few, next-below, writes-length (s .writes))
 
-      module _ {start : ℕ} {mid : List ℕ} (j : Writes out place (joint first place) start mid) where
-        pub name-room : start + longestLabel ≤ length mid
-        name-room = omega (arith, s .place-is, before-few, writes-length (s .writes), j .next-is, writes-length j)
+      module _ {long : ℕ} (k : long ≡ at array (mostControls + i)) where
+        long-is : long ≡ length (labelOf ls i)
+        long-is = k ∙ ready .held .lengths i next-below
 
-        label-short : length (labelOf ls next) ≤ longestLabel
-        label-short = ready .good .each next next-below .short
+        pub label-room : place + long ≤ first + 143
+        label-room = omega (arith, place-at, joint-few, long-is)
 
-        pub label-room : start + at array (mostControls + next) ≤ first + 143
-        label-room = omega (arith, s .place-is, before-few, j .next-is, ready .held .lengths next next-below, label-short)
+        module _ {name end : ℕ} {mid : List ℕ} (n : name ≡ at array i) (w : Writes out place (bytesOf longestLabel name) end mid) where
+          pub joint-fits : place + long + length (joint (bitAnd rest (rest - 1))) ≤ length mid
+          joint-fits = omega (arith, place-at, joint-few, long-is, writes-length w, writes-length (s .writes))
 
-        pub column-more : {name long end : ℕ} {last : List ℕ} → name ≡ at array next →
-            long ≡ at array (mostControls + next) →
-            Writes mid start (bytesOf longestLabel name) end last →
-            ColumnSoFar S array first old last (S / 2 ^ (next + 1)) (next + 1) (start + long) (count + 1)
-        column-more {name} {long} e f w =
-            let l = labelOf ls next in
-            let k : long ≡ length l = f ∙ ready .held .lengths next next-below in
-            let bytes : bytesOf longestLabel name ≡ l ++ blanks (longestLabel - length l) =
-            ap (bytesOf longestLabel) (e ∙ ready .held .names next next-below) ∙ name-filled l (ready .good .each next next-below) in
-            let eight : length (bytesOf longestLabel name) ≡ longestLabel =
-            ap (λ (v : ℕ). length (bytesOf longestLabel v)) (e ∙ ready .held .names next next-below) ∙ ap length (name-bytes l (ready .good .each next next-below))
-            ∙ length-filled longestLabel l label-short in
-            let long-text : length (textTo ls S control ++ joint first place) ≡ length (textTo ls S control) + length (joint first place) =
-            length-append (textTo ls S control) (joint first place) in
-            record {
-              most = omega (arith, next-below);
-              rest-is = refl;
-              counted = omega (arith, s .counted, one-control i rest l-is, ap size (shr-shr-is));
-              place-is = omega (arith, s .place-is, j .next-is, ap length more-text, length-append (textTo ls S control ++ joint first place) l);
-              writes =
-                  writes-same (sym (ap (filled 143) more-text))
-                  (filled-on 143 (textTo ls S control ++ joint first place) l (longestLabel - length l) bytes (omega (arith, before-few))
-                  (omega (arith, s .place-is, j .next-is))
-                  (filled-on 143 (textTo ls S control) (joint first place) 0 (sym (append-nil (joint first place))) (omega (arith, before-few)) (s .place-is) (s .writes) j)
-                  w);
-            }
-          where
-            l-is : Lowest rest i
-            l-is = l
+          bytes : bytesOf longestLabel name ≡ labelOf ls i ++ blanks (longestLabel - length (labelOf ls i))
+          bytes = ap (bytesOf longestLabel) (n ∙ ready .held .names i next-below) ∙ name-filled (labelOf ls i) (ready .good .each i next-below)
 
-            shr-shr-is : rest / 2 ^ (i + 1) ≡ S / 2 ^ (next + 1)
-            shr-shr-is = bit-at (i + 1) ∙ ap (λ (x : ℕ). S / 2 ^ x) (let e : control + (i + 1) ≡ next + 1 = omega arith in e)
+          with-name : Writes old first (filled 143 (marked done ++ labelOf ls i)) (first + 143) mid
+          with-name =
+              let eight : length (bytesOf longestLabel name) ≡ longestLabel =
+              ap length bytes ∙ length-append (labelOf ls i) (blanks (longestLabel - length (labelOf ls i)))
+              ∙ (let e : length (labelOf ls i) + length (blanks (longestLabel - length (labelOf ls i))) ≡ longestLabel = omega (arith, length-replicate {A = ℕ} (longestLabel - length (labelOf ls i)) 32, label-short) in e) in
+              filled-on 143 (marked done) (labelOf ls i) (longestLabel - length (labelOf ls i)) bytes (omega (arith, before-few, next-below)) place-at
+              (writes-same (ap (filled 143) text-is) (s .writes)) w
+
+          pub column-more : {next : ℕ} {last : List ℕ} → Writes mid (place + long) (joint (bitAnd rest (rest - 1))) next last →
+              ColumnSoFar S array first old last (bitAnd rest (rest - 1)) next (count + 1)
+          column-more j =
+              let text : linked (bitAnd rest (rest - 1)) (partsTo ls S (i + 1)) ≡ (marked done ++ labelOf ls i) ++ joint (bitAnd rest (rest - 1)) =
+              ap (linked (bitAnd rest (rest - 1))) more-parts ∙ linked-more (bitAnd rest (rest - 1)) done (labelOf ls i) in
+              let whole = length-append (marked done) (labelOf ls i) in
+              record {
+                control = i + 1;
+                most = omega (arith, next-below);
+                rest-is = rest-next;
+                counted = omega (arith, s .counted, size-without i rest l, ap size (without-lowest i rest some l));
+                place-is =
+                    omega (arith, place-at, j .next-is, long-is, ap length text, length-append (marked done ++ labelOf ls i) (joint (bitAnd rest (rest - 1))));
+                writes =
+                    writes-same (sym (ap (filled 143) text))
+                    (filled-on 143 (marked done ++ labelOf ls i) (joint (bitAnd rest (rest - 1))) 0 (sym (append-nil (joint (bitAnd rest (rest - 1)))))
+                    (omega (arith, joint-few)) (omega (arith, place-at, long-is)) with-name j);
+              }
 
   module _ (none : rest ≤ 0) where
-    bit-none : (j : ℕ) → has S (control + j) ≡ false
+    bit-none : (j : ℕ) → has S (s .control + j) ≡ false
     bit-none j =
-        let zero-rest : rest / 2 ^ j ≤ 0 = omega (arith, shr-le rest j) in
-        ne-eqb (S / 2 ^ (control + j) % 2) 1 (λ (e : S / 2 ^ (control + j) % 2 ≡ 1). omega (arith, bit-at j))
+        let zero-rest : rest / 2 ^ (s .control + j) ≤ 0 = omega (arith, shr-le rest (s .control + j)) in
+        ne-eqb (S / 2 ^ (s .control + j) % 2) 1 (λ (e : S / 2 ^ (s .control + j) % 2 ≡ 1). omega (arith, high (s .control + j) (omega arith)))
 
-    all-parts : joined (map (labelOf ls) (controlsOf S)) ≡ textTo ls S control
+    all-parts : joined (map (labelOf ls) (controlsOf S)) ≡ linked rest done
     unfolding partsTo controlsOf
     all-parts =
-        let all : mostControls ≡ control + (mostControls - control) = omega (arith, s .most) in
-        ap (textTo ls S) all ∙ ap joined (parts-skip ls S control (mostControls - control) (λ j h. bit-none j))
+        let all : mostControls ≡ s .control + (mostControls - s .control) = omega (arith, s .most) in
+        ap (λ (k : ℕ). joined (partsTo ls S k)) all ∙ ap joined (parts-skip ls S (s .control) (mostControls - s .control) (λ j h. bit-none j))
+        ∙ rw (eq-eqb rest 0 (omega arith))
 
     all-labels : S ≢ 0 → Writes old first (filled 143 (labelled ls S)) (first + 143) out
     unfolding labelled

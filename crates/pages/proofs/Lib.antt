@@ -1,2 +1,4 @@
+pub mod ControlSteps
+pub mod NameSteps
 pub mod ColumnSteps
 pub mod CallSteps

@@ -14,9 +14,9 @@ pub record Lowest (S i : ℕ) : Type 0 where
   pub bit : S / 2 ^ i % 2 ≡ 1
   pub none-below : (j : ℕ) → j < i → S / 2 ^ j % 2 ≡ 0
 
--- what joins a label to those before it: nothing at the start of the column, else +
-abbrev pub joint : ℕ → ℕ → List ℕ
-joint first at = cond (eqb at first) [] (43 ∷ [])
+-- what stands behind a label: + if controls are left
+abbrev pub joint : ℕ → List ℕ
+joint rest = cond (eqb rest 0) [] (43 ∷ [])
 
 -- an array of labels, no two of which are the same
 pub record Ready (array : List ℕ) : Type 0 where

@@ -46,12 +46,12 @@ fn lowest_control(code: usize) -> usize
     usize::trailing_zeros(code) as usize
 }
 
-// A + between two labels of the column that starts at `first`.
-fn write_joint(first: usize, at: usize, out: &mut [u8]) -> usize
-    requires { ⌜ at < length (now out) ⌝ }
-    ensures { λ r. ⌜ Writes (now (out .entry)) at (joint first at) r (now (out .exit)) ⌝ }
+// A + behind a label if controls are left.
+fn write_joint(rest: usize, at: usize, out: &mut [u8]) -> usize
+    requires { ⌜ at + length (joint rest) ≤ length (now out) ⌝ }
+    ensures { λ r. ⌜ Writes (now (out .entry)) at (joint rest) r (now (out .exit)) ⌝ }
 {
-    if at == first {
+    if rest == 0 {
         return at;
     }
     out[at] = b'+';
@@ -95,16 +95,13 @@ fn write_column(code: usize, labels: &[u64], at: usize, out: &mut [u8]) -> usize
         return 0;
     }
     let mut rest = code;
-    let mut control = 0;
     let mut place = at;
     let mut size = 0;
     while 0 < rest {
-        control += lowest_control(rest);
-        let start = write_joint(at, place, out);
-        write_name(labels[control], start, out);
-        place = start + length_of(labels, control);
-        control += 1;
-        rest = code >> control;
+        let control = lowest_control(rest);
+        write_name(labels[control], place, out);
+        rest = rest & (rest - 1);
+        place = write_joint(rest, place + length_of(labels, control), out);
         size += 1;
     }
     size

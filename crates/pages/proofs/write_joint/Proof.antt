@@ -1,6 +1,6 @@
 use native.Mathlib.Omega.{arith}
 use lib.ListN.{length-set}
-use Rattle.pages.proofs.ColumnSteps.{joint-none, joint-one}
+use Rattle.pages.proofs.NameSteps.{joint-none, joint-room, joint-one}
 use borrow.Author.Needs.{needs}
 use Rattle.pages.proofs.write_joint.Statement.{statement}
 use Rattle.pages.proofs.write_joint.Tie as tie
@@ -9,10 +9,10 @@ returns : tie.Need-returns
 returns c = joint-none (c .if1 .taken) (c .before .pre)
 
 slice-write-out : tie.Need-slice-write-out
-slice-write-out c = search needs
+slice-write-out c = joint-room _ (c .if1 .left) (c .before .pre)
 
 add-result : tie.Need-add-result
-add-result c = search needs
+add-result c = omega (arith, slice-write-out c)
 
 same-length : tie.Need-same-length
 same-length c = simp length-set

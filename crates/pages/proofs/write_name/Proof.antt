@@ -1,7 +1,7 @@
 use Prim.Native.Nat.{_-_}
 use native.Mathlib.Omega.{arith}
 use Rattle.definitions.specs.Limits.{longestLabel}
-use Rattle.pages.proofs.ColumnSteps.{NameSoFar, name-start, name-more, name-all}
+use Rattle.pages.proofs.NameSteps.{NameSoFar, name-start, name-more, name-all}
 use borrow.Author.Needs.{needs}
 use Rattle.pages.proofs.write_name.Statement.{statement}
 use Rattle.pages.proofs.write_name.Tie as tie
