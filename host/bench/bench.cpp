@@ -251,10 +251,13 @@ std::vector<Bench> benches() {
     auto add_pages = [&](std::string call, Table Data::*table) {
         auto writer = [table](Data &d) { return sps_write_pages(d.n, d.m, LENT(table), TABLE(sheet), TABLE(buffer)); };
         add(call, "plain", writer, [table](Data &d) {
-            return plain::write_pages(d.n, (d.*table).data(), TABLE(sheet), d.plain_buffer.data());
+            return plain::write_pages(d.n, (d.*table).data(), d.sheet.data(), d.plain_buffer.data());
         });
         add(call, "plain + tests", writer, [table](Data &d) {
             return plain::write_pages_tested(d.n, d.m, LENT(table), TABLE(sheet), TABLE(plain_buffer));
+        });
+        add(call, "tuned + tests", writer, [table](Data &d) {
+            return plain::write_pages_tuned(d.n, d.m, LENT(table), TABLE(sheet), TABLE(plain_buffer));
         });
     };
     add_pages("pages few", &Data::few);

@@ -1,39 +1,20 @@
-// Wall pages with the labels of a sheet: a line for each entry that is not 0, 50 to a page. Sheet, set column, value and passes
-// over the table are each the fastest of several forms that were tried.
-#include <algorithm>
-#include <cstring>
+// Wall pages with the labels of a sheet: a line for each entry that is not 0, 50 to a page. A line is blanks, and what it says put
+// over them.
+#include "plain_pages.h"
 
-#include "plain.h"
+#include <algorithm>
+
 #include "plain_numbers.h"
-#include "sps.h"
+
+using namespace plain::pages;
 
 namespace {
 
-const u32 PAGE_LINES = 50;
-const std::size_t LINE_LENGTH = 158;
-
-// ---- labels
-
-const u32 LABELS = SPS_MOST_CONTROLS, LONGEST_LABEL = 8, LABEL_ROOM = 16;
-
-// Each label with a plus and blanks behind it, to be put down by a copy of constant length, and its length with the plus.
-struct Labels {
-    u8 text[LABELS][LABEL_ROOM];
-    u32 length[LABELS];
-};
-
-// Of a sheet that is in order. Eight bytes are copied where the sheet has them; blanks go over those that are not the label's.
-void load(const u8 *at, const u8 *end, Labels &labels) {
-    for (u32 i = 0; i < LABELS; i++) {
-        const u32 length = *at++;
-        u8 *text = labels.text[i];
-        std::memset(text + LONGEST_LABEL, ' ', LABEL_ROOM - LONGEST_LABEL);
-        std::memcpy(text, at, end - at >= LONGEST_LABEL ? LONGEST_LABEL : length);
-        std::memset(text + length, ' ', LONGEST_LABEL);
-        text[length] = '+';
-        labels.length[i] = length + 1;
-        at += length;
-    }
+void put_label(Labels &labels, u32 i, const u8 *at, u32 length) {
+    std::memset(labels.text[i], ' ', LABEL_ROOM);
+    for (u32 j = 0; j < length; j++) labels.text[i][j] = at[j];
+    labels.text[i][length] = '+';
+    labels.length[i] = length + 1;
 }
 
 // For each byte whether it is neither a letter nor a digit.
@@ -46,144 +27,103 @@ struct Others {
 };
 constexpr Others OTHERS;
 
-// Each label next to those up to eight places behind it, where the first follows the last: all pairs. The first eight bytes of
-// two texts are the same only if the labels are.
+// The first eight bytes of two texts are the same only if the labels are.
 bool any_equal(const Labels &labels) {
-    u64 words[LABELS + LABELS / 2], equal = 0;
-    for (u32 i = 0; i < LABELS + LABELS / 2; i++) std::memcpy(&words[i], labels.text[i % LABELS], sizeof words[i]);
-    for (u32 places = 1; places <= LABELS / 2; places++) {
-        for (u32 i = 0; i < LABELS; i++) equal |= words[i] == words[i + places];
+    u64 words[LABELS], equal = 0;
+    for (u32 i = 0; i < LABELS; i++) std::memcpy(&words[i], labels.text[i], sizeof words[i]);
+    for (u32 i = 0; i < LABELS; i++) {
+        for (u32 j = i + 1; j < LABELS; j++) equal |= words[i] == words[j];
     }
     return equal != 0;
 }
 
-// The word of a sheet, in its order; the labels, if it is in order.
-u64 load_tested(const u8 *at, const u8 *end, Labels &labels) {
+// The digits of a number; returns the place behind them.
+u8 *put_number(u8 *at, u32 value) {
+    u8 digits[10], *begin = put_before(digits + 10, value);
+    return std::copy(begin, digits + 10, at);
+}
+
+u8 *put_line(u8 *at, LabelByLabel column, u32 code, u32 value) {
+    const u32 size = column.put(at, code);
+    std::memset(at + SET_LENGTH, ' ', LINE_LENGTH - SET_LENGTH - 1);
+    at[LINE_LENGTH - 1] = '\n';
+    put_before(at + SET_LENGTH + 2, size);
+    put_before(at + LINE_LENGTH - 1, value);
+    return at + LINE_LENGTH;
+}
+
+// Zeros are passed over eight at a time.
+template <typename Look>
+void for_each_nonzero(std::size_t entries, const u32 *table, Look look) {
+    std::size_t code = 0;
+    for (; code + 8 <= entries; code += 8) {
+        u32 any = 0;
+        for (std::size_t i = 0; i < 8; i++) any |= table[code + i];
+        if (any == 0) continue;
+        for (std::size_t i = code; i < code + 8; i++) {
+            if (table[i] != 0) look(static_cast<u32>(i), table[i]);
+        }
+    }
+    for (; code < entries; code++) {
+        if (table[code] != 0) look(static_cast<u32>(code), table[code]);
+    }
+}
+
+u64 write(u32 n, u32 lines, const u32 *table, const Labels &labels, u8 *buffer) {
+    const u32 pages = count_pages(lines);
+    u8 *at = put_heading(buffer, 1, pages);
+    u32 page = 1, left = PAGE_LINES;
+    for_each_nonzero(std::size_t{1} << n, table, [&](u32 code, u32 value) {
+        if (left == 0) {
+            at = put_heading(at, ++page, pages);
+            left = PAGE_LINES;
+        }
+        at = put_line(at, LabelByLabel{labels}, code, value);
+        left--;
+    });
+    return static_cast<u64>(at - buffer) << 32;
+}
+
+u32 count_lines(u32 n, const u32 *table) {
+    const u32 *end = table + (std::size_t{1} << n);
+    return static_cast<u32>(end - table - std::count(table, end, 0u));
+}
+
+}  // namespace
+
+void plain::pages::load(const u8 *at, Labels &labels) {
+    for (u32 i = 0; i < LABELS; i++) {
+        const u32 length = *at++;
+        put_label(labels, i, at, length);
+        at += length;
+    }
+}
+
+u64 plain::pages::load_tested(const u8 *at, const u8 *end, Labels &labels) {
     for (u32 i = 0; i < LABELS; i++) {
         const u64 length = plain::take_tested_number(at, end);
         if (length - 1 >= LONGEST_LABEL) return length >> 32 != 0 ? SPS_GROUP : SPS_LABEL;
         const u64 there = std::min(length, static_cast<u64>(end - at));
-        u8 *text = labels.text[i], other = 0;
-        std::memset(text, ' ', LABEL_ROOM);
-        for (u64 j = 0; j < there; j++) {
-            other |= OTHERS.is[at[j]];
-            text[j] = at[j];
-        }
+        u8 other = 0;
+        for (u64 j = 0; j < there; j++) other |= OTHERS.is[at[j]];
         if (other != 0) return SPS_LABEL;
         if (there < length) return SPS_GROUP;
-        text[length] = '+';
-        labels.length[i] = static_cast<u32>(length) + 1;
+        put_label(labels, i, at, static_cast<u32>(length));
         at += length;
     }
     if (at != end) return SPS_TAIL;
     return any_equal(labels) ? SPS_EQUAL : SPS_ACCEPTED;
 }
 
-// ---- the set column
-
-// With the blank behind it, which is as much as all labels of eight bytes take, each with a plus.
-const std::size_t SET_LENGTH = 144;
-
-// Goes from one control of the set to the next, and answers the size. The copy of the last label may reach behind the column,
-// where the line is written afterwards.
-struct LabelByLabel {
-    const Labels &labels;
-
-    u32 put(u8 *at, u32 code) {
-        std::memset(at, ' ', SET_LENGTH);
-        if (code == 0) return *at = '-', 0;
-        u32 size = 0;
-        for (u32 rest = code; rest != 0; rest &= rest - 1, size++) {
-            const int control = __builtin_ctz(rest);
-            std::memcpy(at, labels.text[control], LABEL_ROOM);
-            at += labels.length[control];
-        }
-        at[-1] = ' ';
-        return size;
-    }
-};
-
-// Lines of neighbouring codes have much in common: the labels of the five low controls are copied from a line before with the
-// same of these, those of the others from a line before with the same of those. Codes rise.
-struct FromLinesBefore {
-    static const u32 LOW = 5, LOWS = 1 << LOW;
-    static const std::size_t LOW_LENGTH = SET_LENGTH * LOW / LABELS, HIGH_LENGTH = SET_LENGTH - LOW_LENGTH;
-
-    LabelByLabel by_label;
-    u8 low_length[LOWS] = {}, low_size[LOWS] = {};
-    const u8 *low[LOWS] = {};  // a line with these of the low controls, and with others, so that a plus follows
-    const u8 *high = nullptr;  // the labels of the other controls, in a line
-    u32 high_set = 0, high_size = 0;
-
-    explicit FromLinesBefore(const Labels &labels) : by_label{labels} {
-        for (u32 control = 0; control < LOW; control++) {
-            for (u32 set = 0, bit = 1 << control; set < bit; set++) {
-                low_length[set + bit] = static_cast<u8>(low_length[set] + labels.length[control]);
-                low_size[set + bit] = static_cast<u8>(low_size[set] + 1);
-            }
-        }
-    }
-
-    u32 put(u8 *at, u32 code) {
-        const u32 low_set = code % LOWS, others = code / LOWS;
-        if (others == high_set && low[low_set] != nullptr) {
-            std::memcpy(at, low[low_set], LOW_LENGTH);
-            std::memset(at + HIGH_LENGTH, ' ', LOW_LENGTH);
-            std::memcpy(at + low_length[low_set], high, HIGH_LENGTH);
-            return low_size[low_set] + high_size;
-        }
-        const u32 size = by_label.put(at, code);
-        if (others != 0) {
-            low[low_set] = at;
-            high = at + low_length[low_set];
-            high_set = others;
-            high_size = size - low_size[low_set];
-        }
-        return size;
-    }
-};
-
-// ---- numbers
-
-// The digits of a number; returns the place behind them.
-u8 *put_number(u8 *at, u32 value) {
-    u8 digits[10], *begin = digits + 10;
+u8 *plain::pages::put_before(u8 *end, u32 value) {
     do {
-        *--begin = static_cast<u8>('0' + value % 10);
+        *--end = static_cast<u8>('0' + value % 10);
         value /= 10;
     } while (value != 0);
-    return std::copy(begin, digits + 10, at);
+    return end;
 }
 
-// 00 to 99.
-struct Pairs {
-    u8 digits[100][2] = {};
-
-    constexpr Pairs() {
-        for (u32 i = 0; i < 100; i++) {
-            digits[i][0] = static_cast<u8>('0' + i / 10);
-            digits[i][1] = static_cast<u8>('0' + i % 10);
-        }
-    }
-};
-constexpr Pairs PAIRS;
-
-// A value right-aligned in 10: all ten digits, and blanks over the zeros in front.
-void put_value(u8 *at, u32 value) {
-    const u32 high = value / 10000, low = value % 10000, middle = high % 10000;
-    std::memcpy(at, PAIRS.digits[high / 10000], 2);
-    std::memcpy(at + 2, PAIRS.digits[middle / 100], 2);
-    std::memcpy(at + 4, PAIRS.digits[middle % 100], 2);
-    std::memcpy(at + 6, PAIRS.digits[low / 100], 2);
-    std::memcpy(at + 8, PAIRS.digits[low % 100], 2);
-    for (u8 *zero = at; zero < at + 9 && *zero == '0'; zero++) *zero = ' ';
-}
-
-// ---- pages
-
-u32 count_pages(u32 lines) { return std::max(u32{1}, (lines + PAGE_LINES - 1) / PAGE_LINES); }
-
-u8 *put_heading(u8 *at, u32 page, u32 pages) {
+u8 *plain::pages::put_heading(u8 *at, u32 page, u32 pages) {
     std::memset(at, ' ', LINE_LENGTH - 1);
     at[LINE_LENGTH - 1] = '\n';
     std::memcpy(at, "page ", 5);
@@ -193,66 +133,12 @@ u8 *put_heading(u8 *at, u32 page, u32 pages) {
     return at + LINE_LENGTH;
 }
 
-template <typename Column>
-u8 *put_line(u8 *at, Column &column, u32 code, u32 value) {
-    static const char SIZES[] = " 0 1 2 3 4 5 6 7 8 910111213141516";
-    const u32 size = column.put(at, code);
-    std::memcpy(at + SET_LENGTH, SIZES + 2 * size, 2);
-    at[SET_LENGTH + 2] = ' ';
-    put_value(at + SET_LENGTH + 3, value);
-    at[LINE_LENGTH - 1] = '\n';
-    return at + LINE_LENGTH;
-}
+u32 plain::pages::count_pages(u32 lines) { return std::max(u32{1}, (lines + PAGE_LINES - 1) / PAGE_LINES); }
 
-// Shows first code and end of each part of a table to `look`; a part of 32 zeros is passed over.
-template <typename Look>
-void for_each_part(std::size_t entries, const u32 *table, Look look) {
-    const std::size_t PART = 32;
-    std::size_t first = 0;
-    for (; first + PART <= entries; first += PART) {
-        u32 any = 0;
-        for (std::size_t i = 0; i < PART; i++) any |= table[first + i];
-        if (any != 0) look(first, first + PART);
-    }
-    if (first < entries) look(first, entries);
-}
-
-template <typename Column>
-u64 write_by(Column column, std::size_t entries, u32 lines, const u32 *table, u8 *buffer) {
-    const u32 pages = count_pages(lines);
-    u8 *at = put_heading(buffer, 1, pages);
-    u32 page = 1, left = PAGE_LINES;
-    for_each_part(entries, table, [&](std::size_t first, std::size_t end) {
-        for (std::size_t code = first; code < end; code++) {
-            if (table[code] == 0) continue;
-            if (left == 0) {
-                at = put_heading(at, ++page, pages);
-                left = PAGE_LINES;
-            }
-            at = put_line(at, column, static_cast<u32>(code), table[code]);
-            left--;
-        }
-    });
-    return static_cast<u64>(at - buffer) << 32;
-}
-
-u64 write(u32 n, u32 lines, const u32 *table, const Labels &labels, u8 *buffer) {
-    const std::size_t entries = std::size_t{1} << n;
-    // where few entries are not 0, few lines are neighbours
-    if (lines < entries / 8) return write_by(LabelByLabel{labels}, entries, lines, table, buffer);
-    return write_by(FromLinesBefore(labels), entries, lines, table, buffer);
-}
-
-}  // namespace
-
-u64 plain::write_pages(u32 n, const u32 *table, const u8 *sheet, std::size_t sheet_length, u8 *buffer) {
-    u32 lines = 0;
-    for_each_part(std::size_t{1} << n, table, [&](std::size_t first, std::size_t end) {
-        for (std::size_t code = first; code < end; code++) lines += table[code] != 0;
-    });
+u64 plain::write_pages(u32 n, const u32 *table, const u8 *sheet, u8 *buffer) {
     Labels labels;
-    load(sheet, sheet + sheet_length, labels);
-    return write(n, lines, table, labels, buffer);
+    load(sheet, labels);
+    return write(n, count_lines(n, table), table, labels, buffer);
 }
 
 u64 plain::write_pages_tested(u32 n, u32 m, const u32 *table, std::size_t table_length, const u8 *sheet, std::size_t sheet_length,
@@ -260,17 +146,11 @@ u64 plain::write_pages_tested(u32 n, u32 m, const u32 *table, std::size_t table_
     if (n > SPS_MOST_CONTROLS) return SPS_PANEL;
     if (m < SPS_LOWEST_MODULUS) return SPS_MODULUS;
     if (table_length != std::size_t{1} << n) return SPS_LENGTH;
-    u32 lines = 0, above = 0;
-    for_each_part(table_length, table, [&](std::size_t first, std::size_t end) {
-        for (std::size_t code = first; code < end; code++) {
-            lines += table[code] != 0;
-            above |= table[code] >= m;
-        }
-    });
-    if (above != 0) return SPS_ENTRY;
+    if (!plain::all_below(n, m, table)) return SPS_ENTRY;
     Labels labels;
     const u64 word = load_tested(sheet, sheet + sheet_length, labels);
     if (word != SPS_ACCEPTED) return word;
+    const u32 lines = count_lines(n, table);
     if (LINE_LENGTH * (lines + count_pages(lines)) > buffer_length) return SPS_SHORT;
     return write(n, lines, table, labels, buffer);
 }

@@ -1,14 +1,13 @@
 -- The steps of filling an array with the labels of a sheet, and of looking for equal ones.
 use mathlib.Core.Path.{_≡_, refl, sym, _∙_, ap, subst}
-use mathlib.Core.Bool.{Bool, true, false, cond, _||_}
+use mathlib.Core.Bool.{Bool, true, false, _||_}
 use mathlib.Core.List.{List, [], _∷_, _++_, flatMap, append-assoc}
 use mathlib.Core.Logic.{⊎-elim}
-use Prim.Native.Nat.{ℕ, zero, suc, _+_, _*_, _-_, _^_, _<_, _≤_}
+use Prim.Native.Nat.{ℕ, suc, _+_, _*_, _-_, _^_, _<_, _≤_}
 use native.Mathlib.Numerals.{add-one}
 use native.Mathlib.Decide.{ℕ-discrete}
 use native.Mathlib.Omega.{arith}
-use lib.Dec.{ltb}
-use lib.ListN.{length, take, drop, set, getD, length-set, length-append, length-drop, length-replicate, getD-replicate, drop-of-length-le, List·getD-append}
+use lib.ListN.{length, take, drop, set, length-set, length-append, length-drop, getD-replicate, drop-of-length-le, List·getD-append}
 use lib.Seq.{drop-cons, drop-drop, getD-drop, take-at, drop-at, getD-set-same, getD-set-other, getD-append-add}
 use lib.Pow.{pow-mono, pow-add}
 use borrow.Author.Tests.{lt-ltb, le-ltb}

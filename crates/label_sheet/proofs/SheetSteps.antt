@@ -1,24 +1,22 @@
 -- The steps of testing a sheet: bytes, a label, all labels, the end.
 use mathlib.Core.Path.{_≡_, refl, sym, _∙_, ap}
-use mathlib.Core.Bool.{Bool, true, false, not, _&&_, _||_}
+use mathlib.Core.Bool.{true, false, not}
 use mathlib.Core.List.{List, [], _∷_}
 use Prim.Native.Nat.{ℕ, zero, suc, _+_, _-_, _<_, _≤_}
 use native.Mathlib.Numerals.{add-one}
 use native.Mathlib.Omega.{arith}
-use lib.Dec.{ltb, eqb}
 use lib.ListN.{length, drop, getD, length-drop, drop-of-length-le}
 use lib.Seq.{drop-cons}
 use borrow.Author.Tests.{lt-ltb, le-ltb, eq-eqb, ne-eqb}
 use Rattle.definitions.specs.Limits.{mostControls}
 use Rattle.definitions.specs.Outcomes.{Outcome, accepted, refused, andThen, unless, numberOf}
-use Rattle.definitions.specs.Refusals.{wordIf}
 use Rattle.definitions.specs.Groups.{Numeral, readNumber}
 use Rattle.definitions.specs.Files.{tailWord}
 use Rattle.definitions.specs.Sheets.{between, alphanumeric, labelLengthWord, labelByteWord, Label, byteInFront, readBytes, readLabel}
 use Rattle.definitions.specs.Sheets.{Labels, labelInFront, readLabels, equalWord, sheetEnd, readSheet, sheetNumber}
 use Rattle.theory.specs.Tests.{zero-is-not-one}
 use Rattle.number_groups.specs.Numbers.{reads-word}
-use Rattle.number_groups.specs.NumberAnswers.{placed, outcomeOf, ReadsAt, read-as}
+use Rattle.number_groups.specs.NumberAnswers.{outcomeOf, ReadsAt, read-as}
 use Rattle.number_groups.specs.declared.NumberAnswer.the-variants as number
 use Rattle.number_groups.specs.declared.Numeral as read
 use Rattle.label_sheet.specs.SheetAnswers.{toRest, placeOutcome, toTail}

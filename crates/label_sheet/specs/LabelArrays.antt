@@ -10,7 +10,7 @@ use Rattle.definitions.specs.Sums.{tabulate, at}
 use Rattle.definitions.specs.Outcomes.{accepted}
 use Rattle.definitions.specs.Sheets.{Labels, readLabels, sheetLabels, labelOf}
 use Rattle.definitions.specs.Pages.{filled}
-use Rattle.label_theory.specs.Labels.{GoodLabel, GoodLabels}
+use Rattle.label_theory.specs.Labels.{GoodLabel}
 use Rattle.label_theory.specs.Splitting.{word}
 use Rattle.label_theory.specs.LabelLaws.{AcceptedSheet}
 

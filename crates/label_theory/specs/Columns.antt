@@ -1,11 +1,10 @@
 -- The column of a set, and how long it is.
 --   controls-below, kept-below   controls are below 16
---   joined-few                   joined labels have fewer than 9 bytes for each
 --   labelled-few, labels-fit     a column has at most 143 bytes, so every line and every heading has 158
-use mathlib.Core.Path.{_≡_, refl}
+use mathlib.Core.Path.{refl}
 use mathlib.Core.Bool.{Bool}
 use mathlib.Core.List.{List, [], _∷_, map}
-use Prim.Native.Nat.{ℕ, zero, suc, _+_, _*_, _<_, _≤_}
+use Prim.Native.Nat.{ℕ, suc, _*_, _<_, _≤_}
 use native.Mathlib.Omega.{arith}
 use lib.ListN.{length, getD, length-append}
 use Rattle.definitions.specs.Limits.{mostControls}
@@ -37,7 +36,7 @@ controls-below S = kept-below (has S) mostControls (omega arith)
 -- ---- the labels of some controls
 
 module _ (ls : List (List ℕ)) (good : GoodLabels ls) where
-  pub joined-few : (c : ℕ) (cs : List ℕ) → AllBelow mostControls (c ∷ cs) → length (joined (map (labelOf ls) (c ∷ cs))) < 9 * length (c ∷ cs)
+  joined-few : (c : ℕ) (cs : List ℕ) → AllBelow mostControls (c ∷ cs) → length (joined (map (labelOf ls) (c ∷ cs))) < 9 * length (c ∷ cs)
   unfolding joined
   joined-few c [] b = omega (arith, good .each c (b .0) .short)
   joined-few c (d ∷ cs) b =

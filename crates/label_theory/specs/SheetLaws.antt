@@ -1,7 +1,7 @@
 -- What an accepted sheet is: the bytes of sixteen good labels, no two the same; and every such sheet is accepted.
+--   labels-read      so many labels that are accepted
 --   sheet-read       an accepted sheet
 --   sheet-accepted   and back
---   proper-sheet     a refusal has a word
 use mathlib.Core.Path.{_≡_, refl, sym, _∙_, ap, subst}
 use mathlib.Core.Bool.{Bool, true, false, not, _&&_}
 use mathlib.Core.List.{List, [], _∷_, _++_, flatMap, append-nil, append-assoc}
@@ -12,7 +12,7 @@ use lib.Dec.{ltb, eqb}
 use lib.ListN.{length}
 use borrow.Author.Tests.{not-false, ltb-true, ltb-false, eqb-true, le-ltb}
 use Rattle.definitions.specs.Limits.{mostControls, longestLabel}
-use Rattle.definitions.specs.Outcomes.{Outcome, accepted, refused, andThen, unless}
+use Rattle.definitions.specs.Outcomes.{accepted, andThen, unless}
 use Rattle.definitions.specs.Refusals.{wordIf}
 use Rattle.definitions.specs.Groups.{Numeral, inFront, readNumber}
 use Rattle.definitions.specs.Files.{tailWord}
@@ -33,10 +33,10 @@ sheetOf ls = flatMap entryOf ls
 
 -- ---- the bytes of a label
 
-pub record BytesRead (k : ℕ) (bytes : List ℕ) (x : Label) : Type 0 where
-  pub form : bytes ≡ x .label ++ x .rest
-  pub as-long : length (x .label) ≡ k
-  pub all : AllAlphanumeric (x .label)
+record BytesRead (k : ℕ) (bytes : List ℕ) (x : Label) : Type 0 where
+  form : bytes ≡ x .label ++ x .rest
+  as-long : length (x .label) ≡ k
+  all : AllAlphanumeric (x .label)
 
 bytes-read : (k : ℕ) (bytes : List ℕ) (x : Label) → readBytes k bytes ≡ accepted x → BytesRead k bytes x
 unfolding readBytes
@@ -77,9 +77,9 @@ small-number (b ∷ bs) x e h = ⊎-elim
 
 -- ---- a label
 
-pub record LabelRead (bytes : List ℕ) (x : Label) : Type 0 where
-  pub form : bytes ≡ entryOf (x .label) ++ x .rest
-  pub good : GoodLabel (x .label)
+record LabelRead (bytes : List ℕ) (x : Label) : Type 0 where
+  form : bytes ≡ entryOf (x .label) ++ x .rest
+  good : GoodLabel (x .label)
 
 record Long (k : ℕ) : Type 0 where
   some : 1 ≤ k

@@ -5,7 +5,7 @@
 --   same-bits         two codes with the same controls are one
 use mathlib.Core.Path.{_≡_, refl, sym, _∙_, ap}
 use mathlib.Core.Bool.{Bool, true, false, cond}
-use mathlib.Core.List.{List, [], _∷_, _++_, append-assoc, append-nil}
+use mathlib.Core.List.{List, [], _∷_, _++_, append-nil}
 use Prim.Native.Nat.{ℕ, zero, suc, _+_, _*_, _-_, _/_, _%_, _^_, _<_, _≤_}
 use native.Mathlib.Nat.{div-lt-iff-lt-mul, div-div-eq-div-mul, pow-suc}
 use native.Mathlib.Decide.{ℕ-discrete}
@@ -18,7 +18,7 @@ use borrow.Author.Tests.{eq-eqb, ne-eqb, eqb-true}
 use Rattle.definitions.specs.Limits.{mostControls}
 use Rattle.definitions.specs.Sums.{tabulate, keep}
 use Rattle.definitions.specs.Sets.{size}
-use Rattle.definitions.specs.Sheets.{alphanumeric, labelOf}
+use Rattle.definitions.specs.Sheets.{alphanumeric}
 use Rattle.definitions.specs.Pages.{blanks, filled, behindColumn, Layout, lineOf, has, controlsOf, joined}
 use Rattle.theory.specs.Tests.{zero-is-not-one}
 use Rattle.page_theory.specs.Codes.{keep-snoc}

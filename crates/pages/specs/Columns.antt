@@ -4,7 +4,6 @@ use mathlib.Core.Bool.{cond}
 use mathlib.Core.List.{List, [], _∷_}
 use Prim.Native.Nat.{ℕ, _/_, _%_, _^_, _<_}
 use lib.Dec.{eqb}
-use lib.ListN.{length}
 use Rattle.definitions.specs.Pages.{Layout, labelLayout}
 use Rattle.label_theory.specs.Labels.{GoodLabels}
 use Rattle.label_sheet.specs.LabelArrays.{labelsIn, Held}

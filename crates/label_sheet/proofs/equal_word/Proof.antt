@@ -1,5 +1,4 @@
 use Prim.Native.Nat.{_-_}
-use native.Mathlib.Omega.{arith}
 use Rattle.definitions.specs.Limits.{mostControls}
 use Rattle.label_sheet.proofs.ArraySteps.{DifferentSoFar, different-start, equal-found, different-more, different-all}
 use borrow.Author.Needs.{needs}

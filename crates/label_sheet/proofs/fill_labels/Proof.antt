@@ -1,10 +1,9 @@
 use mathlib.Core.Path.{sym, _∙_}
-use Prim.Native.Nat.{ℕ, _+_, _-_}
+use Prim.Native.Nat.{_-_}
 use native.Mathlib.Omega.{arith}
-use lib.ListN.{length, take, drop, length-take, length-drop, length-set}
+use lib.ListN.{length-take, length-drop, length-set}
 use Rattle.definitions.specs.Limits.{mostControls}
 use Rattle.label_sheet.specs.SheetAnswers.{Tested}
-use Rattle.label_sheet.specs.LabelArrays.{nameOf}
 use Rattle.label_sheet.proofs.ArraySteps.{FilledSoFar, fill-start, good-label, label-stands, fill-more, fill-all}
 use borrow.Author.Needs.{needs}
 use Rattle.label_sheet.proofs.fill_labels.Statement.{statement}

@@ -1,5 +1,4 @@
 use mathlib.Core.Path.{_≡_, refl, sym, _∙_}
-use native.Mathlib.Omega.{arith}
 use lib.ListN.{drop}
 use Rattle.definitions.specs.Limits.{mostControls}
 use Rattle.label_sheet.proofs.SheetSteps.{labelsNumber, labels-stop, labels-more, with-tail, without-tail}

@@ -1,5 +1,4 @@
 use mathlib.Core.Path.{_≡_, refl, sym, _∙_}
-use native.Mathlib.Omega.{arith}
 use lib.ListN.{drop}
 use Rattle.label_sheet.proofs.SheetSteps.{bytesRest, bytes-all, bytes-end, bytes-stop, bytes-more}
 use borrow.Author.Needs.{needs}

@@ -1,4 +1,3 @@
-use native.Mathlib.Omega.{arith}
 use Rattle.label_sheet.proofs.SheetSteps.{no-length, length-none, length-large, length-right}
 use borrow.Author.Needs.{needs}
 use Rattle.label_sheet.proofs.read_label.Statement.{statement}

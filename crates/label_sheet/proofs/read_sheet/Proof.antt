@@ -1,5 +1,5 @@
 use denote.Ref.{now}
-use Rattle.label_sheet.proofs.SheetSteps.{sheet-stops, SheetTested, sheet-tested}
+use Rattle.label_sheet.proofs.SheetSteps.{sheet-stops, sheet-tested}
 use Rattle.label_sheet.proofs.ArraySteps.{sheet-number, sheet-loaded}
 use borrow.Author.Needs.{needs}
 use Rattle.label_sheet.proofs.read_sheet.Statement.{statement}

@@ -1,7 +1,6 @@
 use native.Mathlib.Omega.{arith}
 use lib.Count.{trailing-le}
 use Rattle.pages.proofs.ControlSteps.{lowest}
-use borrow.Author.Needs.{needs}
 use Rattle.pages.proofs.lowest_control.Statement.{statement}
 use Rattle.pages.proofs.lowest_control.Tie as tie
 

@@ -1,7 +1,6 @@
 use native.Mathlib.Omega.{arith}
 use lib.ListN.{length-set}
 use Rattle.pages.proofs.NameSteps.{joint-none, joint-room, joint-one}
-use borrow.Author.Needs.{needs}
 use Rattle.pages.proofs.write_joint.Statement.{statement}
 use Rattle.pages.proofs.write_joint.Tie as tie
 
