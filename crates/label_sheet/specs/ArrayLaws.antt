@@ -1,5 +1,6 @@
 -- Laws of labels as numbers.
 --   name-bytes, name-label   the bytes of a name are the label filled with blanks, and before the first blank the label
+--   bytes-length             so many bytes of a number are so many
 --   label-at                 a label of an array
 --   held                     an array that has the names and lengths of sixteen good labels has just these labels
 --   same-names               two labels of an array are the same exactly if their names are
@@ -54,6 +55,11 @@ good-byte b e = ⊎-elim
     (λ (l : b < 123). omega arith)
     (λ (l : 123 ≤ b). absurd (let f : false ≡ true = sym (large-byte b l) ∙ e in zero-is-not-one (cc)))
     (below-or b 123)
+
+pub bytes-length : (k v : ℕ) → length (bytesOf k v) ≡ k
+unfolding bytesOf
+bytes-length zero v = refl
+bytes-length (suc k) v = ap suc (bytes-length k (v / 256))
 
 good-bytes : (l : List ℕ) (k : ℕ) → AllAlphanumeric l → AllBytes (l ++ blanks k)
 good-bytes [] zero h = tt

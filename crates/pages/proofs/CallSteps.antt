@@ -3,6 +3,7 @@ use mathlib.Core.Path.{_≡_, refl, sym, _∙_, ap, subst}
 use mathlib.Core.List.{List, [], _∷_, _++_}
 use Prim.Native.Nat.{ℕ, zero, suc}
 use lib.ListN.{length}
+use Rattle.definitions.specs.Outcomes.{numberOf}
 use Rattle.definitions.specs.Refusals.{orElse, panelWord, modulusWord, bufferWord}
 use Rattle.definitions.specs.Sheets.{sheetNumber}
 use Rattle.definitions.specs.Pages.{labelLayout, pagesText, wallPages, pagesNumber}
@@ -12,12 +13,13 @@ use Rattle.checks.specs.Answers.{IsChecked, accepted, refused}
 use Rattle.checks.specs.declared.Checked.{Checked}
 use Rattle.checks.specs.declared.Checked.the-variants as checked
 use Rattle.table_writer.specs.Writing.{refusedWith, TextBy}
-use Rattle.table_writer.specs.WritingLaws.{text-refused}
+use Rattle.table_writer.specs.WritingLaws.{text-accepted, text-refused}
 use Rattle.table_writer.specs.declared.Written.{Written}
 use Rattle.label_theory.specs.Labels.{GoodLabels}
 use Rattle.label_theory.specs.LabelLaws.{good-labels}
 use Rattle.label_sheet.specs.LabelArrays.{Loaded}
 use Rattle.pages.specs.Columns.{Ready, layoutOf}
+use Rattle.pages.specs.PagesBy.{IfRoom, IfSheet}
 
 orElse-assoc : (i j k : ℕ) → orElse (orElse i j) k ≡ orElse i (orElse j k)
 orElse-assoc zero j k = refl
@@ -43,7 +45,7 @@ module _ (n m : ℕ) (A sheet old : List ℕ) {r : Checked} (tests : IsChecked m
   others = orElse (sheetNumber sheet) (bufferWord (length old) (length (wallPages sheet A)))
 
   pub as-written : {modulus : _} → r ≡ checked.Accepted modulus → {w : Written} {buffer : List ℕ} →
-      TextBy (wallPages sheet A) others old w buffer → TextBy (wallPages sheet A) number old w buffer
+      IfSheet sheet A old w buffer → TextBy (wallPages sheet A) number old w buffer
   as-written e {w} {buffer} h =
       subst (λ (j : ℕ). TextBy (wallPages sheet A) j old w buffer)
       (sym (by-tests n m A sheet (length old) ∙ orElse-go (tableNumber n m A) others (accepted tests e))) h
@@ -63,8 +65,11 @@ module _ {sheet array : List ℕ} (l : Loaded sheet array) where
   ready = record { held = l .held; good = subst GoodLabels (sym (l .labels-are)) (good-labels sheet (l .read)) }
 
   -- what is written with them
-  pub as-loaded : (A : List ℕ) {old : List ℕ} {w : Written} {buffer : List ℕ} →
-      TextBy (pagesText (layoutOf array) A) (bufferWord (length old) (length (pagesText (layoutOf array) A))) old w buffer →
-      TextBy (wallPages sheet A) (bufferWord (length old) (length (wallPages sheet A))) old w buffer
+  pub as-loaded : (A : List ℕ) {old : List ℕ} {w : Written} {buffer : List ℕ} → IfRoom (pagesText (layoutOf array) A) old w buffer → IfSheet sheet A old w buffer
   as-loaded A {old} {w} {buffer} h =
-      subst (λ (t : List ℕ). TextBy t (bufferWord (length old) (length t)) old w buffer) (ap (λ (ls : List (List ℕ)). pagesText (labelLayout ls) A) (l .labels-are)) h
+      let text : pagesText (layoutOf array) A ≡ wallPages sheet A = ap (λ (ls : List (List ℕ)). pagesText (labelLayout ls) A) (l .labels-are) in
+      text-accepted (wallPages sheet A) old (sheetNumber sheet) _ refl (ap numberOf (l .read)) (subst (λ (t : List ℕ). IfRoom t old w buffer) text h)
+
+-- a sheet that is refused
+pub not-loaded : (sheet A old : List ℕ) {word : ℕ} → word ≡ sheetNumber sheet → (word ≡ 0 → ⊥) → IfSheet sheet A old (refusedWith word) old
+not-loaded sheet A old e d = text-refused (wallPages sheet A) old (sheetNumber sheet) _ refl e d

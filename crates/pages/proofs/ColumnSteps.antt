@@ -27,7 +27,8 @@ use Rattle.page_theory.specs.Widths.{length-filled}
 use Rattle.label_theory.specs.Labels.{GoodLabel, GoodLabels}
 use Rattle.label_theory.specs.Columns.{AllBelow, kept-below, labelled-few}
 use Rattle.label_sheet.specs.LabelArrays.{nameOf, bytesOf, labelsIn}
-use Rattle.label_sheet.specs.ArrayLaws.{name-bytes}
+use Rattle.label_sheet.specs.ArrayLaws.{name-bytes, bytes-length}
+use Rattle.page_text.specs.PageParts.{Room}
 use Rattle.pages.proofs.ControlSteps.{without-lowest, size-without}
 use Rattle.pages.specs.Columns.{Lowest, joint, Ready}
 
@@ -155,6 +156,9 @@ pub blank-column : (at : ℕ) {old mid : List ℕ} {end : ℕ} → end ≡ at + 
 blank-column at {old} {mid} ends w =
     let wide : at + 143 - at ≡ 143 = omega arith in
     subst (λ (k : ℕ). Writes old at (blanks 143) k mid) ends (writes-same (ap blanks wide) w)
+
+pub column-room : {S first : ℕ} {old text blank : List ℕ} {end : ℕ} → Room S 143 first old → Writes old first text end blank → first + 143 ≤ length blank
+column-room r w = omega (arith, r .room, writes-length w)
 
 nothing-yet : filled 143 [] ≡ blanks 143
 unfolding filled
@@ -316,9 +320,7 @@ module _ {S : ℕ} {array : List ℕ} {first : ℕ} {old out : List ℕ} {rest p
 
           with-name : Writes old first (filled 143 (marked done ++ labelOf ls i)) (first + 143) mid
           with-name =
-              let eight : length (bytesOf longestLabel name) ≡ longestLabel =
-              ap length bytes ∙ length-append (labelOf ls i) (blanks (longestLabel - length (labelOf ls i)))
-              ∙ (let e : length (labelOf ls i) + length (blanks (longestLabel - length (labelOf ls i))) ≡ longestLabel = omega (arith, length-replicate {A = ℕ} (longestLabel - length (labelOf ls i)) 32, label-short) in e) in
+              let eight = bytes-length longestLabel name in
               filled-on 143 (marked done) (labelOf ls i) (longestLabel - length (labelOf ls i)) bytes (omega (arith, before-few, next-below)) place-at
               (writes-same (ap (filled 143) text-is) (s .writes)) w
 
@@ -327,7 +329,7 @@ module _ {S : ℕ} {array : List ℕ} {first : ℕ} {old out : List ℕ} {rest p
           column-more j =
               let text : linked (bitAnd rest (rest - 1)) (partsTo ls S (i + 1)) ≡ (marked done ++ labelOf ls i) ++ joint (bitAnd rest (rest - 1)) =
               ap (linked (bitAnd rest (rest - 1))) more-parts ∙ linked-more (bitAnd rest (rest - 1)) done (labelOf ls i) in
-              let whole = length-append (marked done) (labelOf ls i) in
+              let both = length-append (marked done) (labelOf ls i) in
               record {
                 control = i + 1;
                 most = omega (arith, next-below);

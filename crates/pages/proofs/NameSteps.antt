@@ -2,7 +2,7 @@
 use mathlib.Core.Path.{_≡_, refl, sym, _∙_, ap}
 use mathlib.Core.List.{List, [], _∷_}
 use mathlib.Core.Logic.{_≢_}
-use Prim.Native.Nat.{ℕ, zero, suc, _+_, _-_, _/_, _%_, _<_, _≤_}
+use Prim.Native.Nat.{ℕ, suc, _+_, _-_, _/_, _%_, _<_, _≤_}
 use native.Mathlib.Omega.{arith}
 use lib.ListN.{length, set, length-set}
 use lib.Seq.{sets}
@@ -11,6 +11,7 @@ use Rattle.definitions.specs.Limits.{longestLabel}
 use Rattle.text_pieces.specs.Text.{Writes}
 use Rattle.text_pieces.specs.TextLaws.{writes-one, writes-none}
 use Rattle.label_sheet.specs.LabelArrays.{bytesOf}
+use Rattle.label_sheet.specs.ArrayLaws.{bytes-length}
 use Rattle.pages.specs.Columns.{joint}
 
 -- ---- a + if controls are left
@@ -46,11 +47,6 @@ name-start name at old = record {
 bytes-more : (k v : ℕ) → bytesOf (suc k) v ≡ (v % 256) ∷ bytesOf k (v / 256)
 unfolding bytesOf
 bytes-more k v = refl
-
-bytes-length : (k v : ℕ) → length (bytesOf k v) ≡ k
-unfolding bytesOf
-bytes-length zero v = refl
-bytes-length (suc k) v = ap suc (bytes-length k (v / 256))
 
 no-bytes : (v : ℕ) → bytesOf 0 v ≡ []
 unfolding bytesOf

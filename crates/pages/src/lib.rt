@@ -6,14 +6,13 @@ ghost use lib.ListN.{length};
 ghost use Rattle.definitions.specs.Limits.{mostControls, longestLabel};
 ghost use Rattle.definitions.specs.Sums.{at};
 ghost use Rattle.definitions.specs.Sets.{size};
-ghost use Rattle.definitions.specs.Refusals.{orElse, bufferWord};
-ghost use Rattle.definitions.specs.Sheets.{sheetNumber};
-ghost use Rattle.definitions.specs.Pages.{filled, labelled, lineOf, pagesText, wallPages, pagesNumber, pagesWritten, pagesBuffer};
+ghost use Rattle.definitions.specs.Pages.{filled, labelled, lineOf, pagesText, pagesNumber, pagesWritten, pagesBuffer};
 ghost use Rattle.text_pieces.specs.Text.{Writes};
-ghost use Rattle.table_writer.specs.Writing.{MostEntries, TextBy};
+ghost use Rattle.table_writer.specs.Writing.{MostEntries};
 ghost use Rattle.label_sheet.specs.LabelArrays.{bytesOf, arrayLength, labelsIn};
 ghost use Rattle.page_text.specs.PageParts.{Room, LinesRoom, LinesWritten, PagesRoom};
 ghost use Rattle.pages.specs.Columns.{Lowest, joint, Ready, layoutOf};
+ghost use Rattle.pages.specs.PagesBy.{IfRoom, IfSheet};
 use checks::Checked;
 use checks::check_table;
 use label_sheet::ARRAY_LENGTH;
@@ -160,7 +159,7 @@ fn write_all(pages: u32, table: &[u32], labels: &[u64], out: &mut [u8]) -> usize
 fn write_checked(table: &[u32], labels: &[u64], buffer: &mut [u8]) -> Written
     requires { ⌜ Ready (now labels) ⌝ }
     requires { ⌜ MostEntries (length (now table)) ⌝ }
-    ensures { λ r. ⌜ TextBy (pagesText (layoutOf (now (labels .entry))) (now (table .entry))) (bufferWord (length (now (buffer .entry))) (length (pagesText (layoutOf (now (labels .entry))) (now (table .entry))))) (now (buffer .entry)) r (now (buffer .exit)) ⌝ }
+    ensures { λ r. ⌜ IfRoom (pagesText (layoutOf (now (labels .entry))) (now (table .entry))) (now (buffer .entry)) r (now (buffer .exit)) ⌝ }
 {
     let lines = count_lines(table);
     let pages = count_pages(lines);
@@ -178,7 +177,7 @@ fn write_checked(table: &[u32], labels: &[u64], buffer: &mut [u8]) -> Written
 // Writes the pages of a table if the sheet is accepted and the buffer has room for them.
 fn write_labelled(table: &[u32], sheet: &[u8], buffer: &mut [u8]) -> Written
     requires { ⌜ MostEntries (length (now table)) ⌝ }
-    ensures { λ r. ⌜ TextBy (wallPages (now (sheet .entry)) (now (table .entry))) (orElse (sheetNumber (now (sheet .entry))) (bufferWord (length (now (buffer .entry))) (length (wallPages (now (sheet .entry)) (now (table .entry)))))) (now (buffer .entry)) r (now (buffer .exit)) ⌝ }
+    ensures { λ r. ⌜ IfSheet (now (sheet .entry)) (now (table .entry)) (now (buffer .entry)) r (now (buffer .exit)) ⌝ }
 {
     let mut labels = [0u64; ARRAY_LENGTH];
     let word = read_sheet(sheet, &mut labels);

@@ -22,12 +22,16 @@ is-between-requires-3 c κs = search needs
 
 returns-3 : tie.Need-returns-3
 returns-3 c =
-    is-small _ (sym (c .before .before .before .before .before .is-between .ensures) ∙ c .before .before .before .before .if1 .left) (sym (c .before .before .before .is-between2 .ensures) ∙ c .before .before .if2 .left)
+    let at-capital = c .before .before in
+    let at-digit = at-capital .before .before in
+    is-small _ (sym (at-digit .before .is-between .ensures) ∙ at-digit .if1 .left) (sym (at-capital .before .is-between2 .ensures) ∙ at-capital .if2 .left)
     (sym (c .before .is-between3 .ensures) ∙ c .if3 .taken)
 
 returns-4 : tie.Need-returns-4
 returns-4 c =
-    is-other _ (sym (c .before .before .before .before .before .is-between .ensures) ∙ c .before .before .before .before .if1 .left) (sym (c .before .before .before .is-between2 .ensures) ∙ c .before .before .if2 .left)
+    let at-capital = c .before .before in
+    let at-digit = at-capital .before .before in
+    is-other _ (sym (at-digit .before .is-between .ensures) ∙ at-digit .if1 .left) (sym (at-capital .before .is-between2 .ensures) ∙ at-capital .if2 .left)
     (sym (c .before .is-between3 .ensures) ∙ c .if3 .left)
 
 pub byte-word-spec : {M : Type 1} → statement M

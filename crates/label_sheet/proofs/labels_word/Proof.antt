@@ -26,7 +26,11 @@ enum-known-word : tie.Need-enum-known-word Inv-loop μ-loop
 enum-known-word c = search needs
 
 returns : tie.Need-returns Inv-loop μ-loop
-returns c = sym (c .before .before .before .before .before .loop .inv ∙ labels-stop _ (c .before .before .before .before .before .loop .place) _ (c .before .before .before .before .loop-test .taken) _ (c .before .before .before .read-label .ensures) (c .before .word .given .1))
+returns c =
+    let at-read = c .before .before .before in
+    let at-loop = at-read .before .before in
+    sym (at-loop .loop .inv
+    ∙ labels-stop _ (at-loop .loop .place) _ (at-read .before .loop-test .taken) _ (at-read .read-label .ensures) (c .before .word .given .1))
 
 sub-left : tie.Need-sub-left Inv-loop μ-loop
 sub-left c = search needs
@@ -35,7 +39,11 @@ loop-less : tie.Need-loop-less Inv-loop μ-loop
 loop-less c = search needs
 
 loop-again : tie.Need-loop-again Inv-loop μ-loop
-loop-again c = c .before .before .before .before .before .loop .inv ∙ labels-more _ (c .before .before .before .before .before .loop .place) _ (c .before .before .before .before .loop-test .taken) _ (c .before .before .before .read-label .ensures) (c .before .next .given .1)
+loop-again c =
+    let at-read = c .before .before .before in
+    let at-loop = at-read .before .before in
+    at-loop .loop .inv
+    ∙ labels-more _ (at-loop .loop .place) _ (at-read .before .loop-test .taken) _ (at-read .read-label .ensures) (c .before .next .given .1)
 
 returns-2 : tie.Need-returns-2 Inv-loop μ-loop
 returns-2 c = sym (c .before .before .loop .inv ∙ with-tail _ _ _ (c .before .loop-test .left) (c .if1 .taken))

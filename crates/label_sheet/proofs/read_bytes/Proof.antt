@@ -25,7 +25,10 @@ byte-word-requires : tie.Need-byte-word-requires Inv-loop μ-loop
 byte-word-requires c κs = search needs
 
 returns-2 : tie.Need-returns-2 Inv-loop μ-loop
-returns-2 c = sym (c .before .before .before .before .before .loop .inv ∙ bytes-stop _ _ _ (c .before .before .before .before .loop-test .taken) (c .before .before .before .if1 .left) (c .before .byte-word .ensures) (c .if2 .taken))
+returns-2 c =
+    let at-there = c .before .before .before in
+    let at-loop = at-there .before .before in
+    sym (at-loop .loop .inv ∙ bytes-stop _ _ _ (at-there .before .loop-test .taken) (at-there .if1 .left) (c .before .byte-word .ensures) (c .if2 .taken))
 
 add-place : tie.Need-add-place Inv-loop μ-loop
 add-place c = search needs
@@ -37,7 +40,10 @@ loop-less : tie.Need-loop-less Inv-loop μ-loop
 loop-less c = search needs
 
 loop-again : tie.Need-loop-again Inv-loop μ-loop
-loop-again c = c .before .before .before .before .before .loop .inv ∙ bytes-more _ _ _ (c .before .before .before .before .loop-test .taken) (c .before .before .before .if1 .left) (c .before .byte-word .ensures) (c .if2 .left)
+loop-again c =
+    let at-there = c .before .before .before in
+    let at-loop = at-there .before .before in
+    at-loop .loop .inv ∙ bytes-more _ _ _ (at-there .before .loop-test .taken) (at-there .if1 .left) (c .before .byte-word .ensures) (c .if2 .left)
 
 returns-3 : tie.Need-returns-3 Inv-loop μ-loop
 returns-3 c = bytes-all _ _ (c .loop-test .left) ∙ sym (c .before .loop .inv)

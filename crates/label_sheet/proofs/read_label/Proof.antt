@@ -15,7 +15,10 @@ returns : tie.Need-returns
 returns c = length-none _ _ (c .before .before .before .before .before .read-number .ensures) (c .before .before .before .length .given .1) (c .if1 .taken)
 
 returns-2 : tie.Need-returns-2
-returns-2 c = length-large _ _ (c .before .before .before .before .before .before .before .read-number .ensures) (c .before .before .before .before .before .length .given .1) (c .before .before .if1 .left) (c .if2 .taken)
+returns-2 c =
+    let at-some = c .before .before in
+    let at-length = at-some .before .before .before in
+    length-large _ _ (at-length .before .before .read-number .ensures) (at-length .length .given .1) (at-some .if1 .left) (c .if2 .taken)
 
 read-bytes-requires : tie.Need-read-bytes-requires
 read-bytes-requires c κs = search needs
@@ -24,7 +27,11 @@ enum-known-word : tie.Need-enum-known-word
 enum-known-word c = search needs
 
 returns-3 : tie.Need-returns-3
-returns-3 c = length-right _ _ (c .before .before .before .before .before .before .before .before .read-number .ensures) (c .before .before .before .before .before .before .length .given .1) (c .before .before .before .if1 .left) (c .read-bytes .result) (c .before .if2 .left) (c .read-bytes .ensures)
+returns-3 c =
+    let at-some = c .before .before .before in
+    let at-length = at-some .before .before .before in
+    length-right _ _ (at-length .before .before .read-number .ensures) (at-length .length .given .1) (at-some .if1 .left)
+    (c .read-bytes .result) (c .before .if2 .left) (c .read-bytes .ensures)
 
 returns-4 : tie.Need-returns-4
 returns-4 c = no-length _ _ (c .before .before .before .read-number .ensures) (c .before .word .given .1)

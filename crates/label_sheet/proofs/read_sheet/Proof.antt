@@ -1,5 +1,5 @@
 use denote.Ref.{now}
-use Rattle.label_sheet.proofs.SheetSteps.{sheet-stops, sheet-tested}
+use Rattle.label_sheet.proofs.SheetSteps.{SheetTested, sheet-stops, sheet-tested}
 use Rattle.label_sheet.proofs.ArraySteps.{sheet-number, sheet-loaded}
 use borrow.Author.Needs.{needs}
 use Rattle.label_sheet.proofs.read_sheet.Statement.{statement}
@@ -14,9 +14,13 @@ labels-word-requires c κs = search needs
 returns : tie.Need-returns
 returns c = (sheet-stops _ (c .before .labels-word .ensures) (c .if1 .taken), λ e. absurd (c .if1 .taken e))
 
+-- past the test
+tested : (c : tie.Else1) → SheetTested (now (c .before .before .before .before .args .sheet))
+tested c = sheet-tested (now (c .before .before .before .before .args .sheet)) (c .before .labels-word .ensures) (c .if1 .left)
+
 fill-labels-requires : tie.Need-fill-labels-requires
 fill-labels-requires c κs =
-    let t = sheet-tested (now (c .before .before .before .before .before .args .sheet)) (c .before .before .labels-word .ensures) (c .before .if1 .left) in
+    let t = tested (c .before) in
     (c .before .before .before .before .before .pre, (t .labels, t .read))
 
 equal-word-requires : tie.Need-equal-word-requires
@@ -27,8 +31,9 @@ same-length c = search needs
 
 returns-2 : tie.Need-returns-2
 returns-2 c =
-    let t = sheet-tested (now (c .before .before .before .before .before .before .before .before .before .before .args .sheet)) (c .before .before .before .before .before .before .before .labels-word .ensures) (c .before .before .before .before .before .before .if1 .left) in
-    (sheet-number _ _ t (c .before .before .before .before .fill-labels .ensures) (c .equal-word .ensures), sheet-loaded _ _ t (c .before .before .before .before .fill-labels .ensures) (c .equal-word .ensures))
+    let at-fill = c .before .before .before .before in
+    let t = tested (at-fill .before .before) in
+    (sheet-number _ _ t (at-fill .fill-labels .ensures) (c .equal-word .ensures), sheet-loaded _ _ t (at-fill .fill-labels .ensures) (c .equal-word .ensures))
 
 pub read-sheet-spec : {M : Type 1} → statement M
 read-sheet-spec =

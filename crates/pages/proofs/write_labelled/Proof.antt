@@ -1,11 +1,6 @@
-use mathlib.Core.Path.{refl, sym, _∙_}
+use mathlib.Core.Path.{refl}
 use denote.Ref.{now}
-use lib.ListN.{length}
-use Rattle.definitions.specs.Refusals.{orElse, bufferWord}
-use Rattle.definitions.specs.Sheets.{sheetNumber}
-use Rattle.definitions.specs.Pages.{wallPages}
-use Rattle.table_writer.specs.WritingLaws.{text-accepted, text-refused}
-use Rattle.pages.proofs.CallSteps.{ready, as-loaded}
+use Rattle.pages.proofs.CallSteps.{ready, as-loaded, not-loaded}
 use borrow.Author.Needs.{needs}
 use Rattle.pages.proofs.write_labelled.Statement.{statement}
 use Rattle.pages.proofs.write_labelled.Tie as tie
@@ -25,30 +20,26 @@ refused-requires c κs = search needs
 returns : tie.Need-returns
 returns c =
     let start = c .before .before .before .before .before .before .before .before in
-    let text = wallPages (now (start .args .sheet)) (now (start .args .table)) in
-    let buffer = now (start .args .buffer) in
     rw (c .refused .ensures)
-    (text-refused text buffer (sheetNumber (now (start .args .sheet))) (orElse (sheetNumber (now (start .args .sheet))) (bufferWord (length buffer) (length text))) refl
-    (c .before .before .before .read-sheet .ensures .0) (c .before .if1 .taken))
+    (not-loaded (now (start .args .sheet)) (now (start .args .table)) (now (start .args .buffer)) (c .before .before .before .read-sheet .ensures .0) (c .before .if1 .taken))
 
 slice-aggregate-write-checked : tie.Need-slice-aggregate-write-checked
 slice-aggregate-write-checked c = search needs
 
 write-checked-requires : tie.Need-write-checked-requires
-write-checked-requires c κs = (ready (c .before .before .before .before .read-sheet .ensures .1 (c .before .before .if1 .left)), c .before .before .before .before .before .before .before .before .before .pre)
+write-checked-requires c κs =
+    let at-read = c .before .before .before .before in
+    (ready (at-read .read-sheet .ensures .1 (c .before .before .if1 .left)), at-read .before .before .before .before .before .pre)
 
 same-length : tie.Need-same-length
 same-length c = search needs
 
 returns-2 : tie.Need-returns-2
 returns-2 c =
-    let start = c .before .before .before .before .before .before .before .before .before .before .before .before in
-    let text = wallPages (now (start .args .sheet)) (now (start .args .table)) in
-    let buffer = now (start .args .buffer) in
-    let read = c .before .before .before .before .before .before .before .read-sheet .ensures in
-    text-accepted text buffer (sheetNumber (now (start .args .sheet))) (orElse (sheetNumber (now (start .args .sheet))) (bufferWord (length buffer) (length text))) refl
-    (sym (read .0) ∙ c .before .before .before .before .before .if1 .left)
-    (as-loaded (read .1 (c .before .before .before .before .before .if1 .left)) (now (start .args .table)) (c .before .before .write-checked .ensures))
+    let at-test = c .before .before .before .before .before in
+    let at-read = at-test .before .before in
+    let start = at-read .before .before .before .before .before in
+    as-loaded (at-read .read-sheet .ensures .1 (at-test .if1 .left)) (now (start .args .table)) (c .before .before .write-checked .ensures)
 
 pub write-labelled-spec : {M : Type 1} → statement M
 write-labelled-spec =
