@@ -1,10 +1,11 @@
 -- Sheets, lines, headings and pages worked by hand, and the call's words, count and buffer.
 use mathlib.Core.Path.{_≡_, refl}
-use mathlib.Core.Bool.{true, false}
+use mathlib.Core.Bool.{cond}
 use mathlib.Core.List.{List, [], _∷_, _++_, map, flatMap}
-use Prim.Native.Nat.{ℕ, _+_, _*_, _/_, _%_}
+use Prim.Native.Nat.{ℕ, _+_, _*_, _/_, _%_, _^_}
 use lib.Count.{ones, onesIn}
-use lib.ListN.{replicate}
+use lib.Dec.{eqb}
+use lib.ListN.{length, replicate}
 use Rattle.definitions.specs.Sums.{tabulate, keep}
 use Rattle.definitions.specs.Partitions.{allBelow}
 use Rattle.definitions.specs.Outcomes.{accepted}
@@ -26,13 +27,11 @@ worked-widths = (refl, refl, refl, refl)
 
 -- ---- sheets
 
--- the bytes on both sides of where digits, capital and small letters begin and end
+-- all bytes that a label may have: digits, capital and small letters
 pub letters-and-digits :
-    (alphanumeric 47 ≡ false) × (alphanumeric 48 ≡ true) × (alphanumeric 57 ≡ true) × (alphanumeric 58 ≡ false)
-    × (alphanumeric 64 ≡ false) × (alphanumeric 65 ≡ true) × (alphanumeric 90 ≡ true) × (alphanumeric 91 ≡ false)
-    × (alphanumeric 96 ≡ false) × (alphanumeric 97 ≡ true) × (alphanumeric 122 ≡ true) × (alphanumeric 123 ≡ false)
-unfolding alphanumeric
-letters-and-digits = (refl, refl, refl, refl, refl, refl, refl, refl, refl, refl, refl, refl)
+    keep alphanumeric (tabulate 256 (λ b. b)) ≡ tabulate 10 (λ i. 48 + i) ++ (tabulate 26 (λ i. 65 + i) ++ tabulate 26 (λ i. 97 + i))
+unfolding alphanumeric tabulate keep
+letters-and-digits = refl
 
 -- `gate`, `bar`, and c to p
 abbrev gate : List ℕ
@@ -60,20 +59,33 @@ long-park = flatMap (λ i. 8 ∷ long-label i) (tabulate 16 (λ i. i))
 abbrev long-labels : List (List ℕ)
 long-labels = map long-label (tabulate 16 (λ i. i))
 
-pub worked-sheets : (readSheet park ≡ accepted park-labels) × (readSheet long-park ≡ accepted long-labels)
+-- two labels of each length from 1 to 8, where the shorter begin as the longer do
+abbrev of-each-length : List (List ℕ)
+of-each-length = flatMap (λ k. replicate (1 + k) 65 ∷ replicate (1 + k) 97 ∷ []) (tabulate 8 (λ k. k))
+
+-- labels of eight bytes that differ in the last one alone, or in its case
+abbrev last-differs : ℕ → List ℕ
+last-differs i = replicate 7 48 ++ ((65 + i % 8 + 32 * (i / 8)) ∷ [])
+
+pub worked-sheets :
+    (readSheet park ≡ accepted park-labels) × (readSheet long-park ≡ accepted long-labels)
+    × (readSheet (flatMap (λ l. length l ∷ l) of-each-length) ≡ accepted of-each-length)
+    × (sheetNumber (flatMap (λ i. 8 ∷ last-differs i) (tabulate 16 (λ i. i))) ≡ 0)
 unfolding readSheet readLabels readLabel readBytes readNumber alphanumeric twice among same tabulate flatMap
-worked-sheets = (refl, refl)
+worked-sheets = (refl, refl, refl, refl)
 
 -- so many labels of one byte, from a on
 abbrev letters-to : ℕ → List ℕ
 letters-to k = flatMap (λ i. 1 ∷ (97 + i) ∷ []) (tabulate k (λ i. i))
 
--- a length: none, 80 00, 0, 9, 128 in two groups; 8, and nothing behind it
+-- a length: none, 80 00, 0, 9, 128 and 257 in two groups, 4294967295 and 4294967296 in five; 8, and nothing behind it
 pub length-words :
     (sheetNumber [] ≡ 8) × (sheetNumber (128 ∷ 0 ∷ []) ≡ 8) × (sheetNumber (0 ∷ []) ≡ 17) × (sheetNumber (9 ∷ []) ≡ 17)
-    × (sheetNumber (128 ∷ 1 ∷ []) ≡ 17) × (sheetNumber (8 ∷ []) ≡ 8)
+    × (sheetNumber (128 ∷ 1 ∷ []) ≡ 17) × (sheetNumber (129 ∷ 2 ∷ []) ≡ 17)
+    × (sheetNumber (255 ∷ 255 ∷ 255 ∷ 255 ∷ 15 ∷ []) ≡ 17) × (sheetNumber (128 ∷ 128 ∷ 128 ∷ 128 ∷ 16 ∷ []) ≡ 8)
+    × (sheetNumber (8 ∷ []) ≡ 8)
 unfolding readSheet readLabels readLabel readBytes readNumber
-length-words = (refl, refl, refl, refl, refl, refl)
+length-words = (refl, refl, refl, refl, refl, refl, refl, refl, refl)
 
 -- a byte: + where the sheet ends behind it, at once and one byte later; an end ahead of it
 pub byte-words :
@@ -86,11 +98,23 @@ byte-words = (refl, refl, refl, refl, refl)
 -- differ in case alone, or where one begins as the other
 pub end-words :
     (sheetNumber (letters-to 15) ≡ 8) × (sheetNumber (letters-to 16) ≡ 0) × (sheetNumber (letters-to 17) ≡ 9)
+    × (sheetNumber (long-park ++ (0 ∷ [])) ≡ 9)
     × (sheetNumber (letters-to 15 ++ (1 ∷ 97 ∷ 0 ∷ [])) ≡ 9) × (sheetNumber (letters-to 15 ++ (1 ∷ 97 ∷ [])) ≡ 18)
     × (sheetNumber (letters-to 15 ++ (1 ∷ 111 ∷ [])) ≡ 18) × (sheetNumber (letters-to 2 ++ (letters-to 13 ++ (1 ∷ 32 ∷ []))) ≡ 17)
     × (sheetNumber (letters-to 15 ++ (1 ∷ 65 ∷ [])) ≡ 0) × (sheetNumber (letters-to 15 ++ (2 ∷ 97 ∷ 97 ∷ [])) ≡ 0)
 unfolding readSheet readLabels readLabel readBytes readNumber alphanumeric twice among same tabulate flatMap
-end-words = (refl, refl, refl, refl, refl, refl, refl, refl, refl)
+end-words = (refl, refl, refl, refl, refl, refl, refl, refl, refl, refl)
+
+-- the letters, but the label of control j is that of control i
+abbrev again : ℕ → ℕ → List ℕ
+again i j = flatMap (λ k. 1 ∷ (97 + cond (eqb k j) i k) ∷ []) (tabulate 16 (λ k. k))
+
+-- any two of sixteen labels that are equal; two of two bytes
+pub equal-pairs :
+    (flatMap (λ j. map (λ i. sheetNumber (again i j)) (tabulate j (λ i. i))) (tabulate 16 (λ j. j)) ≡ replicate 120 18)
+    × (sheetNumber (letters-to 14 ++ (2 ∷ 97 ∷ 98 ∷ 2 ∷ 97 ∷ 98 ∷ [])) ≡ 18)
+unfolding readSheet readLabels readLabel readBytes readNumber alphanumeric twice among same tabulate flatMap
+equal-pairs = (refl, refl)
 
 -- ---- lines and headings
 
@@ -120,6 +144,11 @@ pub worked-lines :
     × (lineOf (labelLayout long-labels) 65535 4294967294 ≡ of-all-controls)
 unfolding lineOf filled aligned behindColumn labelled joined controlsOf digitsIn tabulate keep flatMap ones onesIn
 worked-lines = (refl, refl, refl, refl, refl)
+
+-- each control alone shows its own label
+pub each-alone : map (λ i. labelled park-labels (2 ^ i)) (tabulate 16 (λ i. i)) ≡ park-labels
+unfolding labelled joined controlsOf tabulate keep
+each-alone = refl
 
 -- `page 1 of 1` and 146 blanks
 abbrev first-of-one : List ℕ
@@ -173,18 +202,25 @@ two-pages = refl
 
 -- ---- the call
 
--- its words in order: each where all behind it apply too, those of the sheet among themselves as above; 16 controls are not word 1
+-- its words in order: each where all behind it apply too, those of the sheet among themselves as above; 16 controls are not word 1,
+-- and the sheet counts for a table of zeros too
 pub page-words :
     (pagesNumber 17 1 (9 ∷ []) [] 0 ≡ 1)
     × (pagesNumber 2 1 (9 ∷ []) [] 0 ≡ 2)
     × (pagesNumber 16 7 (9 ∷ []) [] 0 ≡ 3)
     × (pagesNumber 3 7 (0 ∷ 3 ∷ 0 ∷ 5 ∷ 0 ∷ 0 ∷ 0 ∷ 7 ∷ []) [] 0 ≡ 5)
-    × (pagesNumber 0 7 (6 ∷ []) [] 0 ≡ 8)
+    × (pagesNumber 0 7 (6 ∷ []) [] 0 ≡ 8) × (pagesNumber 0 7 (0 ∷ []) [] 0 ≡ 8)
     × (pagesNumber 0 7 (6 ∷ []) (9 ∷ []) 0 ≡ 17)
     × (pagesNumber 0 7 (6 ∷ []) (letters-to 17) 0 ≡ 9)
     × (pagesNumber 0 7 (6 ∷ []) (letters-to 15 ++ (1 ∷ 97 ∷ [])) 0 ≡ 18)
 unfolding pagesNumber allBelow readSheet readLabels readLabel readBytes readNumber alphanumeric twice among same tabulate flatMap
-page-words = (refl, refl, refl, refl, refl, refl, refl, refl)
+page-words = (refl, refl, refl, refl, refl, refl, refl, refl, refl)
+
+-- sixteen labels whatever n is: as many as the panel has controls are too few
+pub sixteen-labels :
+    map (λ n. pagesNumber n 7 (tabulate (2 ^ n) (λ S. 1)) (letters-to n) 0) (tabulate 5 (λ n. n)) ≡ replicate 5 8
+unfolding pagesNumber allBelow readSheet readLabels readLabel readBytes readNumber alphanumeric tabulate flatMap
+sixteen-labels = refl
 
 -- a heading and a line, under the lowest modulus: 315 bytes are too few, 316 are enough; so are 158 for a heading alone
 pub page-room :
@@ -193,15 +229,20 @@ pub page-room :
 unfolding pagesNumber allBelow readSheet readLabels readLabel readBytes readNumber alphanumeric twice among same filled aligned behindColumn lineOf headingText heading nonzeroCodes pagesFor linesOf pageText pagesText controlsOf labelled joined tabulate keep digitsIn flatMap ones onesIn
 page-room = (refl, refl, refl, refl)
 
+-- sheets that are refused by 8, 17, 9 and 18
+abbrev bad-sheets : List (List ℕ)
+bad-sheets = [] ∷ (0 ∷ park) ∷ letters-to 17 ∷ (letters-to 15 ++ (1 ∷ 97 ∷ [])) ∷ []
+
 -- what it leaves in a buffer that counts from 0, and how many bytes it counts: the pages and the bytes behind them; where it is
--- refused, for room, for an entry or for the sheet, the buffer
+-- refused, for room, for an entry, for a length or for the sheet, the buffer
 pub page-leaves :
     (pagesBuffer 0 7 (0 ∷ []) park (tabulate 160 (λ i. i)) ≡ first-of-one ++ (158 ∷ 159 ∷ []))
     × (pagesBuffer 0 7 (0 ∷ []) park (tabulate 157 (λ i. i)) ≡ tabulate 157 (λ i. i))
     × (pagesBuffer 0 7 (7 ∷ []) park (tabulate 316 (λ i. i)) ≡ tabulate 316 (λ i. i))
-    × (pagesBuffer 0 7 (6 ∷ []) (0 ∷ park) (tabulate 316 (λ i. i)) ≡ tabulate 316 (λ i. i))
+    × (pagesBuffer 1 7 (6 ∷ []) park (tabulate 316 (λ i. i)) ≡ tabulate 316 (λ i. i))
+    × (map (λ sheet. pagesBuffer 0 7 (6 ∷ []) sheet (tabulate 316 (λ i. i))) bad-sheets ≡ replicate 4 (tabulate 316 (λ i. i)))
     × (pagesWritten 0 7 (0 ∷ []) park 160 ≡ 158) × (pagesWritten 0 7 (6 ∷ []) park 400 ≡ 316)
     × (pagesWritten 0 7 (0 ∷ []) park 157 ≡ 0) × (pagesWritten 0 7 (7 ∷ []) park 316 ≡ 0)
-    × (pagesWritten 0 7 (6 ∷ []) (0 ∷ park) 316 ≡ 0)
+    × (map (λ sheet. pagesWritten 0 7 (6 ∷ []) sheet 316) bad-sheets ≡ replicate 4 0)
 unfolding pagesNumber allBelow readSheet readLabels readLabel readBytes readNumber alphanumeric twice among same filled aligned behindColumn lineOf headingText heading nonzeroCodes pagesFor linesOf pageText pagesText controlsOf labelled joined tabulate keep digitsIn flatMap ones onesIn
-page-leaves = (refl, refl, refl, refl, refl, refl, refl, refl, refl)
+page-leaves = (refl, refl, refl, refl, refl, refl, refl, refl, refl, refl)
