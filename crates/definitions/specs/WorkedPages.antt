@@ -213,7 +213,7 @@ pub page-words :
     × (pagesNumber 0 7 (6 ∷ []) (9 ∷ []) 0 ≡ 17)
     × (pagesNumber 0 7 (6 ∷ []) (letters-to 17) 0 ≡ 9)
     × (pagesNumber 0 7 (6 ∷ []) (letters-to 15 ++ (1 ∷ 97 ∷ [])) 0 ≡ 18)
-unfolding pagesNumber allBelow readSheet readLabels readLabel readBytes readNumber alphanumeric twice among same tabulate flatMap
+unfolding pagesNumber allBelow readSheet readLabels readLabel readBytes readNumber alphanumeric twice among same filled aligned behindColumn lineOf headingText heading nonzeroCodes pagesFor linesOf pageText pagesText controlsOf labelled joined tabulate keep digitsIn flatMap ones onesIn
 page-words = (refl, refl, refl, refl, refl, refl, refl, refl, refl)
 
 -- sixteen labels whatever n is: as many as the panel has controls are too few

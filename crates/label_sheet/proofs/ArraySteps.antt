@@ -13,7 +13,7 @@ use lib.Pow.{pow-mono, pow-add}
 use borrow.Author.Tests.{lt-ltb, le-ltb}
 use Rattle.definitions.specs.Limits.{mostControls, longestLabel}
 use Rattle.definitions.specs.Sums.{at}
-use Rattle.definitions.specs.Outcomes.{Outcome, accepted, valueOr}
+use Rattle.definitions.specs.Outcomes.{Outcome, valueOr}
 use Rattle.definitions.specs.Sheets.{Labels, same, among, twice, equalWord, sheetNumber, sheetLabels, labelOf}
 use Rattle.definitions.specs.Pages.{blanks, filled}
 use Rattle.theory.specs.Tests.{below-or, zero-is-not-one}
@@ -21,7 +21,7 @@ use Rattle.page_theory.specs.Widths.{length-filled}
 use Rattle.label_theory.specs.Labels.{GoodLabel}
 use Rattle.label_theory.specs.SheetLaws.{entryOf, sheetOf, LabelsRead, labels-read}
 use Rattle.label_sheet.specs.SheetAnswers.{Tested}
-use Rattle.label_sheet.specs.LabelArrays.{packed, nameOf, byteOrBlank, arrayLength, labelsIn, Held, Fills, Loaded}
+use Rattle.label_sheet.specs.LabelArrays.{asNumber, nameOf, byteOrBlank, arrayLength, labelsIn, Held, Fills, Loaded}
 use Rattle.label_sheet.proofs.SheetSteps.{SheetTested, sheet-word, sheet-accepts}
 use Rattle.label_sheet.specs.ArrayLaws.{HasLabels, labels-length, labels-are, held, same-names, other-names}
 
@@ -42,21 +42,21 @@ filled-at l i h k = ⊎-elim
 -- the bytes from one on, as a number of so many bytes
 pub record NameSoFar (l : List ℕ) (name left : ℕ) : Type 0 where
   pub most : left ≤ longestLabel
-  pub name-is : name ≡ packed (drop left (filled longestLabel l))
+  pub name-is : name ≡ asNumber (drop left (filled longestLabel l))
   pub few : name < 2 ^ (8 * (longestLabel - left))
 
-packed-none : packed [] ≡ 0
-unfolding packed
-packed-none = refl
+number-none : asNumber [] ≡ 0
+unfolding asNumber
+number-none = refl
 
-packed-more : (b : ℕ) (bs : List ℕ) → packed (b ∷ bs) ≡ 256 * packed bs + b
-unfolding packed
-packed-more b bs = refl
+number-more : (b : ℕ) (bs : List ℕ) → asNumber (b ∷ bs) ≡ 256 * asNumber bs + b
+unfolding asNumber
+number-more b bs = refl
 
 pub name-start : (l : List ℕ) → length l ≤ longestLabel → NameSoFar l 0 longestLabel
 name-start l h = record {
   most = omega arith;
-  name-is = sym (ap packed (drop-of-length-le (filled longestLabel l) {i = longestLabel} (omega (arith, length-filled longestLabel l h))) ∙ packed-none);
+  name-is = sym (ap asNumber (drop-of-length-le (filled longestLabel l) {i = longestLabel} (omega (arith, length-filled longestLabel l h))) ∙ number-none);
   few = omega arith;
 }
 
@@ -75,7 +75,7 @@ module _ {l : List ℕ} {name left : ℕ} (s : NameSoFar l name left) (short : l
       ∙ ap (λ (x : ℕ). x ∷ drop left (filled longestLabel l)) (filled-at l (left - 1) short (omega (arith, s .most)) ∙ sym e) in
       record {
         most = omega (arith, s .most);
-        name-is = ap (λ (x : ℕ). 256 * x + b) (s .name-is) ∙ sym (ap packed here ∙ packed-more b (drop left (filled longestLabel l)));
+        name-is = ap (λ (x : ℕ). 256 * x + b) (s .name-is) ∙ sym (ap asNumber here ∙ number-more b (drop left (filled longestLabel l)));
         few = eight-more (longestLabel - left) (longestLabel - (left - 1)) (omega (arith, s .most)) (s .few);
       }
     where
@@ -88,7 +88,7 @@ module _ {l : List ℕ} {name left : ℕ} (s : NameSoFar l name left) (short : l
 pub name-all : {l : List ℕ} {name left : ℕ} → NameSoFar l name left → left ≤ 0 → name ≡ nameOf l
 name-all {l} {left = left} s h =
     let e : left ≡ 0 = omega arith in
-    s .name-is ∙ ap (λ (k : ℕ). packed (drop k (filled longestLabel l))) e
+    s .name-is ∙ ap (λ (k : ℕ). asNumber (drop k (filled longestLabel l))) e
 
 -- ---- a label where it stands in the sheet
 
@@ -302,6 +302,6 @@ module _ (sheet array : List ℕ) (t : SheetTested sheet) (fills : Fills sheet a
 
   pub sheet-loaded : w ≡ 0 → Loaded sheet array
   sheet-loaded e =
-      let read = sheet-accepts sheet t (sym of-labels ∙ e) in
-      let labels : sheetLabels sheet ≡ t .labels .labels = ap (λ (o : Outcome (List (List ℕ))). valueOr [] (λ ls. ls) o) read in
-      record { held = fills .held; read = read ∙ ap accepted (sym labels); labels-are = same-labels ∙ sym labels }
+      let labels : sheetLabels sheet ≡ t .labels .labels =
+      ap (λ (o : Outcome (List (List ℕ))). valueOr [] (λ ls. ls) o) (sheet-accepts sheet t (sym of-labels ∙ e)) in
+      record { held = fills .held; read = sym sheet-number ∙ e; labels-are = same-labels ∙ sym labels }

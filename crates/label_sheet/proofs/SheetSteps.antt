@@ -10,12 +10,12 @@ use lib.Seq.{drop-cons}
 use borrow.Author.Tests.{lt-ltb, le-ltb, eq-eqb, ne-eqb}
 use Rattle.definitions.specs.Limits.{mostControls}
 use Rattle.definitions.specs.Outcomes.{Outcome, accepted, refused, andThen, unless, numberOf}
-use Rattle.definitions.specs.Groups.{Numeral, readNumber}
+use Rattle.definitions.specs.Groups.{Numeral}
 use Rattle.definitions.specs.Files.{tailWord}
 use Rattle.definitions.specs.Sheets.{between, alphanumeric, labelLengthWord, labelByteWord, Label, byteInFront, readBytes, readLabel}
 use Rattle.definitions.specs.Sheets.{Labels, labelInFront, readLabels, equalWord, sheetEnd, readSheet, sheetNumber}
 use Rattle.theory.specs.Tests.{zero-is-not-one}
-use Rattle.number_groups.specs.Numbers.{reads-word}
+use Rattle.label_theory.specs.SheetLaws.{worded-labels}
 use Rattle.number_groups.specs.NumberAnswers.{outcomeOf, ReadsAt, read-as}
 use Rattle.number_groups.specs.declared.NumberAnswer.the-variants as number
 use Rattle.number_groups.specs.declared.Numeral as read
@@ -188,41 +188,6 @@ module _ (sheet : List ℕ) (place left : ℕ) (none : left ≤ 0) where
   without-tail h = all-read ∙ simp (eq-eqb (length (drop place sheet)) 0 (omega (arith, length-drop place sheet)))
 
 -- ---- the word of the sheet
-
--- a refusal has a word
-abbrev Worded : {X : Type 0} → Outcome X → Type 0
-Worded o = (k : ℕ) → o ≡ refused k → 0 < k
-
-worded-accepted : {X : Type 0} (x : X) → Worded (accepted x)
-worded-accepted x k e = absurd (zero-is-not-one (cc))
-
-worded-then : {X Y : Type 0} (o : Outcome X) (next : X → Outcome Y) → Worded o → ((x : X) → Worded (next x)) → Worded (andThen o next)
-worded-then (accepted x) next h g k e = g x k e
-worded-then (refused w) next h g k e = h k (ap refused (let f : w ≡ k = cc in f))
-
-worded-unless : {X : Type 0} (w : ℕ) (o : Outcome X) → Worded o → Worded (unless w o)
-worded-unless zero o g k e = g k e
-worded-unless (suc w) o g k e = let f : suc w ≡ k = cc in omega arith
-
-worded-bytes : (j : ℕ) (bytes : List ℕ) → Worded (readBytes j bytes)
-unfolding readBytes
-worded-bytes zero bytes = worded-accepted _
-worded-bytes (suc j) [] = λ k e. let f : 8 ≡ k = cc in omega arith
-worded-bytes (suc j) (b ∷ bs) =
-    worded-unless (labelByteWord b) _ (worded-then (readBytes j bs) (byteInFront b) (worded-bytes j bs) (λ x. worded-accepted _))
-
-worded-label : (bytes : List ℕ) → Worded (readLabel bytes)
-unfolding readLabel
-worded-label bytes =
-    worded-then (readNumber bytes) withLength (λ k e. omega (arith, reads-word bytes k e)) (λ x.
-    worded-unless (labelLengthWord (x .value)) _ (worded-bytes (x .value) (x .rest)))
-
-worded-labels : (j : ℕ) (bytes : List ℕ) → Worded (readLabels j bytes)
-unfolding readLabels
-worded-labels zero bytes = worded-accepted _
-worded-labels (suc j) bytes =
-    worded-then (readLabel bytes) _ (worded-label bytes) (λ x.
-    worded-then (readLabels j (x .rest)) (labelInFront (x .label)) (worded-labels j (x .rest)) (λ y. worded-accepted _))
 
 abbrev toNumber : Outcome Labels → ℕ
 toNumber o = numberOf (andThen o sheetEnd)

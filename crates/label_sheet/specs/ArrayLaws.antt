@@ -22,7 +22,7 @@ use Rattle.theory.specs.Lists.{length-tabulate, at-tabulate}
 use Rattle.page_theory.specs.Widths.{length-filled}
 use Rattle.label_theory.specs.Labels.{AllAlphanumeric, GoodLabel, same-self, same-is}
 use Rattle.label_theory.specs.Splitting.{word, word-filled, good-free}
-use Rattle.label_sheet.specs.LabelArrays.{packed, bytesOf, nameOf, arrayLength, labelIn, labelsIn, Held}
+use Rattle.label_sheet.specs.LabelArrays.{asNumber, bytesOf, nameOf, arrayLength, labelIn, labelsIn, Held}
 
 -- ---- bytes and numbers
 
@@ -30,13 +30,13 @@ abbrev AllBytes : List ℕ → Type 0
 AllBytes [] = Unit {0}
 AllBytes (b ∷ bs) = (b < 256) × AllBytes bs
 
-bytes-packed : (bs : List ℕ) → AllBytes bs → bytesOf (length bs) (packed bs) ≡ bs
-unfolding packed bytesOf
-bytes-packed [] h = refl
-bytes-packed (b ∷ bs) h =
-    let low : (256 * packed bs + b) % 256 ≡ b = omega (arith, h .0) in
-    let high : (256 * packed bs + b) / 256 ≡ packed bs = omega (arith, h .0) in
-    ap₂ (λ (x : ℕ) (l : List ℕ). x ∷ l) low (ap (bytesOf (length bs)) high ∙ bytes-packed bs (h .1))
+bytes-number : (bs : List ℕ) → AllBytes bs → bytesOf (length bs) (asNumber bs) ≡ bs
+unfolding asNumber bytesOf
+bytes-number [] h = refl
+bytes-number (b ∷ bs) h =
+    let low : (256 * asNumber bs + b) % 256 ≡ b = omega (arith, h .0) in
+    let high : (256 * asNumber bs + b) / 256 ≡ asNumber bs = omega (arith, h .0) in
+    ap₂ (λ (x : ℕ) (l : List ℕ). x ∷ l) low (ap (bytesOf (length bs)) high ∙ bytes-number bs (h .1))
 
 large-byte : (b : ℕ) → 123 ≤ b → alphanumeric b ≡ false
 unfolding alphanumeric
@@ -75,7 +75,7 @@ module _ (l : List ℕ) (good : GoodLabel l) where
   unfolding filled
   name-bytes =
       ap (λ (k : ℕ). bytesOf k (nameOf l)) (sym (length-filled longestLabel l (good .short)))
-      ∙ bytes-packed (filled longestLabel l) (good-bytes l (longestLabel - length l) (good .bytes))
+      ∙ bytes-number (filled longestLabel l) (good-bytes l (longestLabel - length l) (good .bytes))
 
   pub name-label : word (bytesOf longestLabel (nameOf l)) ≡ l
   unfolding filled

@@ -17,9 +17,9 @@ use Rattle.label_theory.specs.LabelLaws.{AcceptedSheet}
 -- ---- a label as a number
 
 -- bytes as one number, the first byte lowest
-unfoldable pub packed : List ℕ → ℕ
-packed [] = 0
-packed (b ∷ bs) = 256 * packed bs + b
+unfoldable pub asNumber : List ℕ → ℕ
+asNumber [] = 0
+asNumber (b ∷ bs) = 256 * asNumber bs + b
 
 -- and so many bytes of a number
 unfoldable pub bytesOf : ℕ → ℕ → List ℕ
@@ -28,7 +28,7 @@ bytesOf (suc k) v = (v % 256) ∷ bytesOf k (v / 256)
 
 -- the name of a label: its bytes, filled with blanks to eight, as one number
 abbrev pub nameOf : List ℕ → ℕ
-nameOf l = packed (filled longestLabel l)
+nameOf l = asNumber (filled longestLabel l)
 
 -- byte i of a label that is filled with blanks
 abbrev pub byteOrBlank : List ℕ → ℕ → ℕ

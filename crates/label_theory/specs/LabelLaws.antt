@@ -1,5 +1,6 @@
 -- What 02 says of lines with labels, as theorems, for every accepted sheet.
---   shown                        splitting the set column of a line at + gives the labels of its set's controls and no others
+--   shown                        the labels are those of the sheet; splitting the set column of a line at + gives the labels of its
+--                                set's controls and no others
 --   line-bytes, heading-bytes    a line has 158 bytes, and a heading 158
 --   pages-bytes, pages-most      how many bytes all pages have, and how many at most
 use mathlib.Core.Path.{_≡_, refl, sym, _∙_, ap}
@@ -10,18 +11,19 @@ use native.Mathlib.Nat.{div-eq-of-lt}
 use native.Mathlib.Decide.{ℕ-discrete}
 use native.Mathlib.Omega.{arith}
 use lib.Dec.{eqb}
-use lib.ListN.{length}
+use lib.ListN.{length, take, drop}
 use lib.Pow.{pow-pos}
 use borrow.Author.Tests.{ne-eqb, lt-ltb}
 use Rattle.definitions.specs.Limits.{mostControls}
-use Rattle.definitions.specs.Outcomes.{accepted}
-use Rattle.definitions.specs.Sheets.{alphanumeric, same, among, readSheet, sheetLabels, labelOf}
+use Rattle.definitions.specs.Sums.{at}
+use Rattle.definitions.specs.Sheets.{alphanumeric, same, among, sheetNumber, sheetLabels, labelOf}
 use Rattle.definitions.specs.Pages.{lineOf, heading, nonzeroCodes, pagesFor, pageCount, has, controlsOf, joined, labelsOf, labelled, labelLayout, wallPages}
-use Rattle.page_theory.specs.Widths.{line-length, heading-length}
+use Rattle.page_theory.specs.Widths.{Fits, line-length, heading-length}
 use Rattle.page_theory.specs.Codes.{codes-few}
 use Rattle.page_theory.specs.Paging.{pages-length, pages-mono}
+use Rattle.page_theory.specs.Places.{line-at}
 use Rattle.label_theory.specs.Labels.{AllAlphanumeric, GoodLabels, among-labels}
-use Rattle.label_theory.specs.SheetLaws.{sheet-read}
+use Rattle.label_theory.specs.SheetLaws.{sheetOf, SheetRead, sheet-read, number-accepts}
 use Rattle.label_theory.specs.Columns.{AllBelow, controls-below, labelled-few, labels-fit}
 use Rattle.label_theory.specs.Splitting.{columnOf, shownIn, parts, Free, AllFree, good-not, good-free, free-joined, parts-joined, word-column, some-controls, same-bits}
 
@@ -103,7 +105,7 @@ module _ (ls : List (List ℕ)) (good : GoodLabels ls) where
     | no d ↦ ap (among (labelOf ls i)) (shown-labels S v h d) ∙ part-some S i k
   ]
 
-  pub shown-by : Shown ls
+  shown-by : Shown ls
   shown-by = record {
     labels = shown-labels;
     empty = shown-empty;
@@ -114,25 +116,45 @@ module _ (ls : List (List ℕ)) (good : GoodLabels ls) where
 
 -- ---- for every accepted sheet
 
+-- a sheet that none of its words refuses
 abbrev pub AcceptedSheet : List ℕ → Type 0
-AcceptedSheet sheet = readSheet sheet ≡ accepted (sheetLabels sheet)
+AcceptedSheet sheet = sheetNumber sheet ≡ 0
+
+-- what it loads, and what lines show of that
+pub record ShownFrom (sheet : List ℕ) : Type 0 where
+  -- the labels are those of the sheet, one after the other, each behind its length
+  pub loaded : sheet ≡ sheetOf (sheetLabels sheet)
+  pub good : GoodLabels (sheetLabels sheet)
+  pub lines : Shown (sheetLabels sheet)
+  -- and these are the lines of the pages, one for each nonzero entry, in rising code: line k stands behind as many lines, the
+  -- headings of the pages before and that of its own
+  pub places : (A : List ℕ) → length A ≤ 2 ^ mostControls → (k : ℕ) → k < length (nonzeroCodes A) →
+      take 158 (drop (158 * (k + k / 50 + 1)) (wallPages sheet A)) ≡ lineOf (labelLayout (sheetLabels sheet)) (at (nonzeroCodes A) k) (at A (at (nonzeroCodes A) k))
 
 module _ (sheet : List ℕ) (read : AcceptedSheet sheet) where
-  pub good-labels : GoodLabels (sheetLabels sheet)
-  good-labels = sheet-read sheet (sheetLabels sheet) read .good
+  sheet-is : SheetRead sheet (sheetLabels sheet)
+  sheet-is = sheet-read sheet (sheetLabels sheet) (number-accepts sheet read)
 
-  pub shown : Shown (sheetLabels sheet)
-  shown = shown-by (sheetLabels sheet) good-labels
+  fits : Fits (labelLayout (sheetLabels sheet)) 158
+  fits = labels-fit (sheetLabels sheet) (sheet-is .good)
+
+  pub shown : ShownFrom sheet
+  shown = record {
+    loaded = sheet-is .form;
+    good = sheet-is .good;
+    lines = shown-by (sheetLabels sheet) (sheet-is .good);
+    places = line-at fits;
+  }
 
   pub line-bytes : (S v : ℕ) → S < 2 ^ mostControls → length (lineOf (labelLayout (sheetLabels sheet)) S v) ≡ 158
-  line-bytes S v h = line-length (labels-fit (sheetLabels sheet) good-labels) S v h
+  line-bytes S v h = line-length fits S v h
 
   pub heading-bytes : (number pages : ℕ) → length (heading (labelLayout (sheetLabels sheet) .headingWidth) number pages) ≡ 158
-  heading-bytes number pages = heading-length (labels-fit (sheetLabels sheet) good-labels) number pages
+  heading-bytes number pages = heading-length fits number pages
 
   module _ (A : List ℕ) (small : length A ≤ 2 ^ mostControls) where
     pub pages-bytes : length (wallPages sheet A) ≡ 158 * (length (nonzeroCodes A) + pageCount A)
-    pages-bytes = pages-length (labels-fit (sheetLabels sheet) good-labels) A small
+    pages-bytes = pages-length fits A small
 
     -- and at most: each entry has at most one line
     pub pages-most : length (wallPages sheet A) ≤ 158 * (length A + pagesFor (length A))

@@ -1,10 +1,11 @@
 -- Labels as an accepted sheet has them.
 --   GoodLabel, GoodLabels    one label; sixteen of them, no two the same
 --   same-self, same-is       the test of equal labels
+--   once-differ, differ-once no label stands again behind itself exactly if any two differ
 --   label-same               of two labels of a sheet: they are the same only if they are one
 --   among-labels             a label is among those of some controls if its control is one of them
 use mathlib.Core.Path.{_≡_, refl, sym, _∙_, ap, ap₂}
-use mathlib.Core.Bool.{Bool, true, false, cond, _||_, _&&_, or-false, or-assoc}
+use mathlib.Core.Bool.{Bool, true, false, cond, _||_, or-false, or-assoc}
 use mathlib.Core.List.{List, [], _∷_, _++_, map, map-append}
 use mathlib.Core.Logic.{⊎-elim}
 use Prim.Native.Nat.{ℕ, zero, suc, _<_, _≤_}
@@ -33,7 +34,7 @@ pub record GoodLabel (l : List ℕ) : Type 0 where
 pub record GoodLabels (ls : List (List ℕ)) : Type 0 where
   pub sixteen : length ls ≡ mostControls
   pub each : (i : ℕ) → i < mostControls → GoodLabel (labelOf ls i)
-  pub different : twice ls ≡ false
+  pub different : (i j : ℕ) → i < j → j < mostControls → labelOf ls i ≡ labelOf ls j → ⊥
 
 -- ---- equal labels
 
@@ -50,18 +51,12 @@ same-is (x ∷ k) [] e = absurd (zero-is-not-one (cc))
 same-is (x ∷ k) (y ∷ l) e =
     ap₂ (λ (z : ℕ) (t : List ℕ). z ∷ t) (eqb-true x y (and-true-left (eqb x y) (same k l) e)) (same-is k l (and-true-right (eqb x y) (same k l) e))
 
-eqb-turned : (x y : ℕ) → eqb x y ≡ eqb y x
-eqb-turned x y = elim (ℕ-discrete x y) [
-  | yes e ↦ eq-eqb x y e ∙ sym (eq-eqb y x (sym e))
-  | no d ↦ ne-eqb x y d ∙ sym (ne-eqb y x (λ (e : y ≡ x). d (sym e)))
-]
-
-same-turned : (k l : List ℕ) → same k l ≡ same l k
-unfolding same
-same-turned [] [] = refl
-same-turned [] (y ∷ l) = refl
-same-turned (x ∷ k) [] = refl
-same-turned (x ∷ k) (y ∷ l) = ap₂ _&&_ (eqb-turned x y) (same-turned k l)
+other-same : (k l : List ℕ) → (k ≡ l → ⊥) → same k l ≡ false
+other-same k l d = by (same k l) refl
+  where
+    by : (b : Bool) → same k l ≡ b → b ≡ false
+    by false e = refl
+    by true e = absurd (d (same-is k l e))
 
 or-false-left : (a b : Bool) → (a || b) ≡ false → a ≡ false
 or-false-left false b e = refl
@@ -77,12 +72,27 @@ among-at l [] j h e = absurd (zero-is-not-one (omega arith))
 among-at l (x ∷ ls) zero h e = or-false-left (same l x) (among l ls) e
 among-at l (x ∷ ls) (suc j) h e = among-at l ls j (omega arith) (or-false-right (same l x) (among l ls) e)
 
-distinct : (ls : List (List ℕ)) (i j : ℕ) → twice ls ≡ false → i < j → j < length ls → same (labelOf ls i) (labelOf ls j) ≡ false
+-- no label stands again behind itself exactly if any two differ
+pub once-differ : (ls : List (List ℕ)) → twice ls ≡ false → (i j : ℕ) → i < j → j < length ls → labelOf ls i ≡ labelOf ls j → ⊥
 unfolding twice
-distinct [] i j e h l = absurd (zero-is-not-one (omega arith))
-distinct (x ∷ ls) i zero e h l = absurd (zero-is-not-one (omega arith))
-distinct (x ∷ ls) zero (suc j) e h l = among-at x ls j (omega arith) (or-false-left (among x ls) (twice ls) e)
-distinct (x ∷ ls) (suc i) (suc j) e h l = distinct ls i j (or-false-right (among x ls) (twice ls) e) (omega arith) (omega arith)
+once-differ [] e i j h l f = zero-is-not-one (omega arith)
+once-differ (x ∷ ls) e i zero h l f = zero-is-not-one (omega arith)
+once-differ (x ∷ ls) e zero (suc j) h l f =
+    let no : same x (labelOf ls j) ≡ false = among-at x ls j (omega arith) (or-false-left (among x ls) (twice ls) e) in
+    let yes : same x (labelOf ls j) ≡ true = ap (same x) (sym f) ∙ same-self x in
+    zero-is-not-one (cc)
+once-differ (x ∷ ls) e (suc i) (suc j) h l f = once-differ ls (or-false-right (among x ls) (twice ls) e) i j (omega arith) (omega arith) f
+
+not-among : (l : List ℕ) (ls : List (List ℕ)) → ((j : ℕ) → j < length ls → l ≡ labelOf ls j → ⊥) → among l ls ≡ false
+unfolding among
+not-among l [] h = refl
+not-among l (x ∷ ls) h = rw (other-same l x (h 0 (omega arith)), not-among l ls (λ j k. h (suc j) (omega arith)))
+
+pub differ-once : (ls : List (List ℕ)) → ((i j : ℕ) → i < j → j < length ls → labelOf ls i ≡ labelOf ls j → ⊥) → twice ls ≡ false
+unfolding twice
+differ-once [] h = refl
+differ-once (x ∷ ls) h =
+    rw (not-among x ls (λ j k. h 0 (suc j) (omega arith) (omega arith)), differ-once ls (λ i j k l. h (suc i) (suc j) (omega arith) (omega arith)))
 
 -- ---- a label among those of some controls
 
@@ -118,9 +128,9 @@ module _ (ls : List (List ℕ)) (good : GoodLabels ls) where
   label-same i j h k = elim (ℕ-discrete i j) [
     | yes e ↦ rw e (same-self (labelOf ls j) ∙ sym (eq-eqb j j refl))
     | no d ↦ ⊎-elim
-        (λ (l : i < j). distinct ls i j (good .different) l (omega (arith, good .sixteen)) ∙ sym (ne-eqb i j d))
+        (λ (l : i < j). other-same (labelOf ls i) (labelOf ls j) (good .different i j l k) ∙ sym (ne-eqb i j d))
         (λ (l : j ≤ i).
-        same-turned (labelOf ls i) (labelOf ls j) ∙ distinct ls j i (good .different) (omega arith) (omega (arith, good .sixteen)) ∙ sym (ne-eqb i j d))
+        other-same (labelOf ls i) (labelOf ls j) (λ (e : labelOf ls i ≡ labelOf ls j). good .different j i (omega arith) h (sym e)) ∙ sym (ne-eqb i j d))
         (below-or i j)
   ]
 

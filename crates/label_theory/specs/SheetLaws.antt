@@ -2,6 +2,7 @@
 --   labels-read      so many labels that are accepted
 --   sheet-read       an accepted sheet
 --   sheet-accepted   and back
+--   worded-labels, number-accepts   a refusal has a word, so number 0 means accepted
 use mathlib.Core.Path.{_≡_, refl, sym, _∙_, ap, subst}
 use mathlib.Core.Bool.{Bool, true, false, not, _&&_}
 use mathlib.Core.List.{List, [], _∷_, _++_, flatMap, append-nil, append-assoc}
@@ -12,17 +13,17 @@ use lib.Dec.{ltb, eqb}
 use lib.ListN.{length}
 use borrow.Author.Tests.{not-false, ltb-true, ltb-false, eqb-true, le-ltb}
 use Rattle.definitions.specs.Limits.{mostControls, longestLabel}
-use Rattle.definitions.specs.Outcomes.{accepted, andThen, unless}
+use Rattle.definitions.specs.Outcomes.{Outcome, accepted, refused, andThen, unless, numberOf, valueOr}
 use Rattle.definitions.specs.Refusals.{wordIf}
 use Rattle.definitions.specs.Groups.{Numeral, inFront, readNumber}
 use Rattle.definitions.specs.Files.{tailWord}
 use Rattle.definitions.specs.Sheets.{between, alphanumeric, labelLengthWord, labelByteWord, Label, byteInFront, readBytes, readLabel}
-use Rattle.definitions.specs.Sheets.{Labels, labelInFront, readLabels, twice, equalWord, sheetEnd, readSheet, labelOf}
+use Rattle.definitions.specs.Sheets.{Labels, labelInFront, readLabels, twice, equalWord, sheetEnd, readSheet, sheetNumber, sheetLabels, labelOf}
 use Rattle.theory.specs.Tests.{below-or, and-true-left, and-true-right, zero-is-not-one}
 use Rattle.checks.specs.Words.{no-word}
-use Rattle.number_groups.specs.Numbers.{reads-none, reads-last, reads-more}
+use Rattle.number_groups.specs.Numbers.{reads-none, reads-last, reads-more, reads-word}
 use Rattle.table_header.specs.Words.{passed, passed-test}
-use Rattle.label_theory.specs.Labels.{AllAlphanumeric, GoodLabel, GoodLabels}
+use Rattle.label_theory.specs.Labels.{AllAlphanumeric, GoodLabel, GoodLabels, once-differ, differ-once}
 
 -- a label as it stands in a sheet: its length, which is one group, and its bytes
 abbrev pub entryOf : List ℕ → List ℕ
@@ -167,7 +168,11 @@ sheet-parts : (bytes : List ℕ) (ls : List (List ℕ)) (x : Labels) → LabelsR
     tailWord (x .rest) ≡ 0 → equalWord (x .labels) ≡ 0 → x .labels ≡ ls → SheetRead bytes ls
 sheet-parts bytes ls x r t w same =
     subst (SheetRead bytes) same (record {
-      good = record { sixteen = r .count; each = r .each; different = no-word (twice (x .labels)) 18 (λ z. omega arith) w };
+      good = record {
+        sixteen = r .count;
+        each = r .each;
+        different = λ i j h k. once-differ (x .labels) (no-word (twice (x .labels)) 18 (λ z. omega arith) w) i j h (omega (arith, r .count));
+      };
       form = r .form ∙ ap (λ (l : List ℕ). sheetOf (x .labels) ++ l) (no-tail (x .rest) t) ∙ append-nil (sheetOf (x .labels));
     })
 
@@ -212,4 +217,54 @@ sheet-accepted ls g =
     ap (λ (k : ℕ). readLabels k (sheetOf ls)) (sym (g .sixteen))
     ∙ ap (readLabels (length ls)) (sym (append-nil (sheetOf ls)))
     ∙ labels-accepted ls [] (λ i h. g .each i (omega (arith, g .sixteen))) in
-    rw (all, g .different)
+    rw (all, differ-once ls (λ i j h k. g .different i j h (omega (arith, g .sixteen))))
+
+-- ---- a refusal has a word
+
+abbrev pub Worded : {X : Type 0} → Outcome X → Type 0
+Worded o = (k : ℕ) → o ≡ refused k → 0 < k
+
+worded-accepted : {X : Type 0} (x : X) → Worded (accepted x)
+worded-accepted x k e = absurd (zero-is-not-one (cc))
+
+worded-then : {X Y : Type 0} (o : Outcome X) (next : X → Outcome Y) → Worded o → ((x : X) → Worded (next x)) → Worded (andThen o next)
+worded-then (accepted x) next h g k e = g x k e
+worded-then (refused w) next h g k e = h k (ap refused (let f : w ≡ k = cc in f))
+
+worded-unless : {X : Type 0} (w : ℕ) (o : Outcome X) → Worded o → Worded (unless w o)
+worded-unless zero o g k e = g k e
+worded-unless (suc w) o g k e = let f : suc w ≡ k = cc in omega arith
+
+worded-bytes : (j : ℕ) (bytes : List ℕ) → Worded (readBytes j bytes)
+unfolding readBytes
+worded-bytes zero bytes = worded-accepted _
+worded-bytes (suc j) [] = λ k e. let f : 8 ≡ k = cc in omega arith
+worded-bytes (suc j) (b ∷ bs) =
+    worded-unless (labelByteWord b) _ (worded-then (readBytes j bs) (byteInFront b) (worded-bytes j bs) (λ x. worded-accepted _))
+
+worded-label : (bytes : List ℕ) → Worded (readLabel bytes)
+unfolding readLabel
+worded-label bytes =
+    worded-then (readNumber bytes) (λ (v : Numeral). unless (labelLengthWord (v .value)) (readBytes (v .value) (v .rest))) (λ k e. omega (arith, reads-word bytes k e)) (λ x.
+    worded-unless (labelLengthWord (x .value)) _ (worded-bytes (x .value) (x .rest)))
+
+pub worded-labels : (j : ℕ) (bytes : List ℕ) → Worded (readLabels j bytes)
+unfolding readLabels
+worded-labels zero bytes = worded-accepted _
+worded-labels (suc j) bytes =
+    worded-then (readLabel bytes) _ (worded-label bytes) (λ x.
+    worded-then (readLabels j (x .rest)) (labelInFront (x .label)) (worded-labels j (x .rest)) (λ y. worded-accepted _))
+
+worded-sheet : (sheet : List ℕ) → Worded (readSheet sheet)
+unfolding readSheet
+worded-sheet sheet =
+    worded-then (readLabels mostControls sheet) sheetEnd (worded-labels mostControls sheet) (λ x.
+    worded-unless (tailWord (x .rest)) _ (worded-unless (equalWord (x .labels)) _ (worded-accepted _)))
+
+-- so a sheet whose number is 0 is accepted
+pub number-accepts : (sheet : List ℕ) → sheetNumber sheet ≡ 0 → readSheet sheet ≡ accepted (sheetLabels sheet)
+number-accepts sheet z = by (readSheet sheet) (worded-sheet sheet) z
+  where
+    by : (o : Outcome (List (List ℕ))) → Worded o → numberOf o ≡ 0 → o ≡ accepted (valueOr [] (λ ls. ls) o)
+    by (accepted ls) w e = refl
+    by (refused k) w e = absurd (omega (arith, w k refl))

@@ -3,7 +3,6 @@ use mathlib.Core.Path.{_≡_, refl, sym, _∙_, ap, subst}
 use mathlib.Core.List.{List, [], _∷_, _++_}
 use Prim.Native.Nat.{ℕ, zero, suc}
 use lib.ListN.{length}
-use Rattle.definitions.specs.Outcomes.{numberOf}
 use Rattle.definitions.specs.Refusals.{orElse, panelWord, modulusWord, bufferWord}
 use Rattle.definitions.specs.Sheets.{sheetNumber}
 use Rattle.definitions.specs.Pages.{labelLayout, pagesText, wallPages, pagesNumber}
@@ -16,7 +15,7 @@ use Rattle.table_writer.specs.Writing.{refusedWith, TextBy}
 use Rattle.table_writer.specs.WritingLaws.{text-accepted, text-refused}
 use Rattle.table_writer.specs.declared.Written.{Written}
 use Rattle.label_theory.specs.Labels.{GoodLabels}
-use Rattle.label_theory.specs.LabelLaws.{good-labels}
+use Rattle.label_theory.specs.LabelLaws.{shown}
 use Rattle.label_sheet.specs.LabelArrays.{Loaded}
 use Rattle.pages.specs.Columns.{Ready, layoutOf}
 use Rattle.pages.specs.PagesBy.{IfRoom, IfSheet}
@@ -62,13 +61,13 @@ module _ (n m : ℕ) (A sheet old : List ℕ) {r : Checked} (tests : IsChecked m
 
 module _ {sheet array : List ℕ} (l : Loaded sheet array) where
   pub ready : Ready array
-  ready = record { held = l .held; good = subst GoodLabels (sym (l .labels-are)) (good-labels sheet (l .read)) }
+  ready = record { held = l .held; good = subst GoodLabels (sym (l .labels-are)) (shown sheet (l .read) .good) }
 
   -- what is written with them
   pub as-loaded : (A : List ℕ) {old : List ℕ} {w : Written} {buffer : List ℕ} → IfRoom (pagesText (layoutOf array) A) old w buffer → IfSheet sheet A old w buffer
   as-loaded A {old} {w} {buffer} h =
       let text : pagesText (layoutOf array) A ≡ wallPages sheet A = ap (λ (ls : List (List ℕ)). pagesText (labelLayout ls) A) (l .labels-are) in
-      text-accepted (wallPages sheet A) old (sheetNumber sheet) _ refl (ap numberOf (l .read)) (subst (λ (t : List ℕ). IfRoom t old w buffer) text h)
+      text-accepted (wallPages sheet A) old (sheetNumber sheet) _ refl (l .read) (subst (λ (t : List ℕ). IfRoom t old w buffer) text h)
 
 -- a sheet that is refused
 pub not-loaded : (sheet A old : List ℕ) {word : ℕ} → word ≡ sheetNumber sheet → (word ≡ 0 → ⊥) → IfSheet sheet A old (refusedWith word) old
