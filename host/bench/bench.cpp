@@ -345,7 +345,7 @@ int main() {
                 "\"subset product\", \"exponential\", \"full reader\" and \"full writer\" are the library's own calls, and so are\n"
                 "the calls of a recipe, made one by one. Weight is added to a board at controls from the middle of the panel;\n"
                 "tests are those of every entry, in a reader those of everything in the file, in a writer of files or pages also\n"
-                "that of the buffer's length, in that of pages those of everything in the label sheet too, all made before the\n"
+                "that of the buffer's length, for pages also those of everything in the label sheet, all made before the\n"
                 "table or the buffer is touched. A plain reader goes over the file once. In \"few\" 300 of 65,536 entries are not\n"
                 "0, on smaller panels the same share and at least one; in \"all\" every entry.\n\n", ROUNDS);
     std::printf("%-44s library / yardstick at n =     library's growth   n = 16 in subset\n", "");

@@ -225,8 +225,8 @@ uint64_t sps_write_sparse(uint32_t n, uint32_t m,
                           uint8_t *buffer, size_t buffer_len);
 
 /* ---- Wall pages ----------------------------------------------------------------------------------------------------
- * A label sheet has the labels of controls 0 to 15, always all sixteen, then nothing.  A label is its length, a number written
- * as in table files, and that many bytes.  It has 1 to 8 bytes, each an ASCII letter or digit.  No two labels are equal; large
+ * A label sheet has the labels of controls 0 to 15, always all sixteen, then nothing.  A label stands there as its length, a
+ * number written as in table files, and that many bytes: 1 to 8, each an ASCII letter or digit.  No two labels are equal; large
  * and small letters differ.  So a sheet whose first labels are gate and bar begins 04 67 61 74 65 03 62 61 72.  An accepted
  * sheet has 32 to 144 bytes.
  *

@@ -87,14 +87,15 @@ pub length-words :
 unfolding readSheet readLabels readLabel readBytes readNumber
 length-words = (refl, refl, refl, refl, refl, refl, refl, refl, refl)
 
--- a byte: + where the sheet ends behind it, at once and one byte later; an end ahead of it
+-- a byte: + as the first and as the second of three, where the sheet ends behind it, and an early end without it; the same with
+-- `-` in the sixteenth label
 pub byte-words :
     (sheetNumber (3 ∷ 43 ∷ []) ≡ 17) × (sheetNumber (3 ∷ 97 ∷ 43 ∷ []) ≡ 17) × (sheetNumber (3 ∷ 97 ∷ 98 ∷ []) ≡ 8)
     × (sheetNumber (letters-to 15 ++ (1 ∷ 45 ∷ [])) ≡ 17) × (sheetNumber (letters-to 15 ++ (1 ∷ [])) ≡ 8)
 unfolding readSheet readLabels readLabel readBytes readNumber alphanumeric tabulate flatMap
 byte-words = (refl, refl, refl, refl, refl)
 
--- the end: a label too few and one too many; equal labels, with a tail and without, and with a bad byte behind them; labels that
+-- the end: a label too few and one too many, a byte behind the longest sheet; equal labels, with a tail and without, and with a bad byte behind them; labels that
 -- differ in case alone, or where one begins as the other
 pub end-words :
     (sheetNumber (letters-to 15) ≡ 8) × (sheetNumber (letters-to 16) ≡ 0) × (sheetNumber (letters-to 17) ≡ 9)
@@ -109,7 +110,7 @@ end-words = (refl, refl, refl, refl, refl, refl, refl, refl, refl, refl)
 abbrev again : ℕ → ℕ → List ℕ
 again i j = flatMap (λ k. 1 ∷ (97 + cond (eqb k j) i k) ∷ []) (tabulate 16 (λ k. k))
 
--- any two of sixteen labels that are equal; two of two bytes
+-- each two of sixteen labels made equal; two equal labels of two bytes
 pub equal-pairs :
     (flatMap (λ j. map (λ i. sheetNumber (again i j)) (tabulate j (λ i. i))) (tabulate 16 (λ j. j)) ≡ replicate 120 18)
     × (sheetNumber (letters-to 14 ++ (2 ∷ 97 ∷ 98 ∷ 2 ∷ 97 ∷ 98 ∷ [])) ≡ 18)

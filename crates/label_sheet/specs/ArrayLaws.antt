@@ -1,9 +1,9 @@
 -- Laws of labels as numbers.
 --   name-bytes, name-label   the bytes of a name are the label filled with blanks, and before the first blank the label
 --   bytes-length             so many bytes of a number are so many
---   label-at                 a label of an array
---   held                     an array that has the names and lengths of sixteen good labels has just these labels
---   same-names               two labels of an array are the same exactly if their names are
+--   labels-length, label-at  an array has sixteen labels, and each of them
+--   labels-are, held         an array that has the names and lengths of sixteen good labels (HasLabels) has just these labels
+--   same-names, other-names  two labels of an array are the same exactly if their names are
 use mathlib.Core.Path.{_≡_, refl, sym, _∙_, ap, ap₂, subst}
 use mathlib.Core.Bool.{Bool, true, false}
 use mathlib.Core.List.{List, [], _∷_, _++_, map}

@@ -54,12 +54,12 @@ pub record Held (array : List ℕ) : Type 0 where
   pub names : (i : ℕ) → i < mostControls → at array i ≡ nameOf (labelOf (labelsIn array) i)
   pub lengths : (i : ℕ) → i < mostControls → at array (mostControls + i) ≡ length (labelOf (labelsIn array) i)
 
--- those that were read from a sheet
+-- an array with the labels that were read from a sheet, which may be equal
 pub record Fills (sheet array : List ℕ) : Type 0 where
   pub held : Held array
   pub labels-are : (x : Labels) → readLabels mostControls sheet ≡ accepted x → labelsIn array ≡ x .labels
 
--- those of an accepted sheet
+-- an array with the labels of an accepted sheet
 pub record Loaded (sheet array : List ℕ) : Type 0 where
   pub held : Held array
   pub read : AcceptedSheet sheet

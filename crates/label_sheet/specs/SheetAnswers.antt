@@ -23,6 +23,6 @@ placeOutcome sheet (Refused k) = refused k
 abbrev pub toTail : Labels → Outcome Labels
 toTail x = unless (tailWord (x .rest)) (accepted x)
 
--- a sheet whose labels were tested
+-- a sheet whose labels can all be read
 abbrev pub Tested : List ℕ → Type 0
 Tested sheet = (x : Labels) × (readLabels mostControls sheet ≡ accepted x)

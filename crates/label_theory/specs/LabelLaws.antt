@@ -1,6 +1,6 @@
 -- What 02 says of lines with labels, as theorems, for every accepted sheet.
 --   shown                        the labels are those of the sheet; splitting the set column of a line at + gives the labels of its
---                                set's controls and no others
+--                                set's controls and no others; where the line stands
 --   line-bytes, heading-bytes    a line has 158 bytes, and a heading 158
 --   pages-bytes, pages-most      how many bytes all pages have, and how many at most
 use mathlib.Core.Path.{_≡_, refl, sym, _∙_, ap}
@@ -126,7 +126,7 @@ pub record ShownFrom (sheet : List ℕ) : Type 0 where
   pub loaded : sheet ≡ sheetOf (sheetLabels sheet)
   pub good : GoodLabels (sheetLabels sheet)
   pub lines : Shown (sheetLabels sheet)
-  -- and these are the lines of the pages, one for each nonzero entry, in rising code: line k stands behind as many lines, the
+  -- and these are the lines of the pages, one for each nonzero entry, in rising code: line k stands behind k lines, the
   -- headings of the pages before and that of its own
   pub places : (A : List ℕ) → length A ≤ 2 ^ mostControls → (k : ℕ) → k < length (nonzeroCodes A) →
       take 158 (drop (158 * (k + k / 50 + 1)) (wallPages sheet A)) ≡ lineOf (labelLayout (sheetLabels sheet)) (at (nonzeroCodes A) k) (at A (at (nonzeroCodes A) k))

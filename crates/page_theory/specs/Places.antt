@@ -92,7 +92,7 @@ line-among y A codes j h = one-stands (λ S. lineOf y S (at A S)) codes j h
 on-page : (A : List ℕ) (i j : ℕ) → j < 50 → at (onPage A i) j ≡ at (nonzeroCodes A) (50 * i + j)
 on-page A i j h = getD-take 50 (drop (50 * i) (nonzeroCodes A)) j 0 h ∙ getD-drop (50 * i) (nonzeroCodes A) j 0
 
--- ---- where
+-- ---- where lines and headings stand
 
 module _ {y : Layout} {L : ℕ} (f : Fits y L) (A : List ℕ) (small : length A ≤ 2 ^ mostControls) where
   -- full pages

@@ -1,7 +1,7 @@
 -- How long lines and headings are.
 --   length-filled, length-aligned   a text that fits its width
 --   line-length, heading-length     of a layout that fits (Fits)
---   dash-few                        a text, or `-` for the empty set
+--   dash-few                        a text that fits, or `-` for the empty set, fits
 use mathlib.Core.Path.{_≡_, sym, _∙_, ap}
 use mathlib.Core.Bool.{Bool, true, false, cond}
 use mathlib.Core.List.{List, [], _∷_, _++_}

@@ -8,11 +8,11 @@ use Rattle.definitions.specs.Pages.{wallPages}
 use Rattle.table_writer.specs.Writing.{TextBy}
 use Rattle.table_writer.specs.declared.Written.{Written}
 
--- behind all but the buffer's length
+-- where only the buffer's length is left to test
 abbrev pub IfRoom : List ℕ → List ℕ → Written → List ℕ → Type 0
 IfRoom text old r buffer = TextBy text (bufferWord (length old) (length text)) old r buffer
 
--- behind those of n, m and the table
+-- where the sheet and the buffer's length are left to test
 abbrev pub IfSheet : List ℕ → List ℕ → List ℕ → Written → List ℕ → Type 0
 IfSheet sheet A old r buffer =
     TextBy (wallPages sheet A) (orElse (sheetNumber sheet) (bufferWord (length old) (length (wallPages sheet A)))) old r buffer
