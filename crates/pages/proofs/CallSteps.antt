@@ -17,7 +17,7 @@ use Rattle.table_writer.specs.declared.Written.{Written}
 use Rattle.label_theory.specs.Labels.{GoodLabels}
 use Rattle.label_theory.specs.LabelLaws.{shown}
 use Rattle.label_sheet.specs.LabelArrays.{Loaded}
-use Rattle.pages.specs.Columns.{Ready, layoutOf}
+use Rattle.label_column.specs.Columns.{Ready, layoutOf}
 use Rattle.pages.specs.PagesBy.{IfRoom, IfSheet}
 
 orElse-assoc : (i j k : ℕ) → orElse (orElse i j) k ≡ orElse i (orElse j k)

@@ -1,4 +1,1 @@
-pub mod ControlSteps
-pub mod NameSteps
-pub mod ColumnSteps
 pub mod CallSteps

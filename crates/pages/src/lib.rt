@@ -1,23 +1,18 @@
 // The call that writes the wall pages of a table: a line for each entry that is not 0, with the labels of its set's controls, 50 to a
 // page. The sheet is read and the lines are counted before a byte is written, so that a refusal leaves the buffer as it came.
 ghost use mathlib.Core.Path.{_≡_};
-ghost use Prim.Native.Nat.{_+_, _^_, _<_, _≤_};
 ghost use lib.ListN.{length};
-ghost use Rattle.definitions.specs.Limits.{mostControls, longestLabel};
-ghost use Rattle.definitions.specs.Sums.{at};
-ghost use Rattle.definitions.specs.Sets.{size};
-ghost use Rattle.definitions.specs.Pages.{filled, labelled, lineOf, pagesText, pagesNumber, pagesWritten, pagesBuffer};
+ghost use Rattle.definitions.specs.Pages.{lineOf, pagesText, pagesNumber, pagesWritten, pagesBuffer};
 ghost use Rattle.text_pieces.specs.Text.{Writes};
 ghost use Rattle.table_writer.specs.Writing.{MostEntries};
-ghost use Rattle.label_sheet.specs.LabelArrays.{bytesOf, arrayLength, labelsIn};
+ghost use Rattle.label_column.specs.Columns.{Ready, layoutOf};
 ghost use Rattle.page_text.specs.PageParts.{Room, LinesRoom, LinesWritten, PagesRoom};
-ghost use Rattle.pages.specs.Columns.{Lowest, joint, Ready, layoutOf};
 ghost use Rattle.pages.specs.PagesBy.{IfRoom, IfSheet};
 use checks::Checked;
 use checks::check_table;
+use label_column::COLUMN_WIDTH;
+use label_column::write_column;
 use label_sheet::ARRAY_LENGTH;
-use label_sheet::LABELS;
-use label_sheet::LONGEST_LABEL;
 use label_sheet::read_sheet;
 use nonzero_entries::next_entry;
 use page_text::PAGE_LINES;
@@ -27,84 +22,12 @@ use page_text::count_pages;
 use page_text::write_behind;
 use page_text::write_heading;
 use table_writer::Written;
-use text_pieces::write_blanks;
 
-// How wide the column of the set and the heading are.
-const COLUMN_WIDTH: usize = 143;
-
+// How wide the heading is.
 const HEADING_WIDTH: usize = 157;
 
 // The length of a line, and of a heading.
 const LINE_LENGTH: u32 = 158;
-
-// The lowest control of a set that is not empty.
-fn lowest_control(code: usize) -> usize
-    requires { ⌜ (0 < code) × (code < 2 ^ mostControls) ⌝ }
-    ensures { λ r. ⌜ Lowest code r ⌝ }
-{
-    usize::trailing_zeros(code) as usize
-}
-
-// A + behind a label if controls are left.
-fn write_joint(rest: usize, at: usize, out: &mut [u8]) -> usize
-    requires { ⌜ at + length (joint rest) ≤ length (now out) ⌝ }
-    ensures { λ r. ⌜ Writes (now (out .entry)) at (joint rest) r (now (out .exit)) ⌝ }
-{
-    if rest == 0 {
-        return at;
-    }
-    out[at] = b'+';
-    at + 1
-}
-
-// The bytes of a name, a label filled with blanks; the compiler makes one store of them.
-fn write_name(name: u64, at: usize, out: &mut [u8])
-    requires { ⌜ at + longestLabel ≤ length (now out) ⌝ }
-    ensures { λ _. ⌜ Writes (now (out .entry)) at (bytesOf longestLabel name) (at + longestLabel) (now (out .exit)) ⌝ }
-{
-    let mut rest = name;
-    let mut i = 0;
-    while i < LONGEST_LABEL {
-        out[at + i] = (rest % 256) as u8;
-        rest /= 256;
-        i += 1;
-    }
-}
-
-// How many bytes the label of a control has.
-fn length_of(labels: &[u64], control: usize) -> usize
-    requires { ⌜ length (now labels) ≡ arrayLength ⌝ }
-    requires { ⌜ control < mostControls ⌝ }
-    ensures { λ r. ⌜ r ≡ at (now (labels .entry)) (mostControls + control) ⌝ }
-{
-    labels[LABELS + control] as usize
-}
-
-// The labels of a set, filled with blanks; answers the size of the set, which is how many labels there are. The loop goes from one
-// control of the set to the next and stores eight bytes for each: its label, and blanks over blanks.
-fn write_column(code: usize, labels: &[u64], at: usize, out: &mut [u8]) -> usize
-    requires { ⌜ Ready (now labels) ⌝ }
-    requires { ⌜ Room code 143 at (now out) ⌝ }
-    ensures { λ r. ⌜ r ≡ size code ⌝ }
-    ensures { λ _. ⌜ Writes (now (out .entry)) at (filled 143 (labelled (labelsIn (now (labels .entry))) code)) (at + 143) (now (out .exit)) ⌝ }
-{
-    write_blanks(at, at + COLUMN_WIDTH, out);
-    if code == 0 {
-        out[at] = b'-';
-        return 0;
-    }
-    let mut rest = code;
-    let mut place = at;
-    let mut size = 0;
-    while 0 < rest {
-        let control = lowest_control(rest);
-        write_name(labels[control], place, out);
-        rest = rest & (rest - 1);
-        place = write_joint(rest, place + length_of(labels, control), out);
-        size += 1;
-    }
-    size
-}
 
 // The line of a set and its value.
 fn write_line(code: usize, value: u32, labels: &[u64], at: usize, out: &mut [u8]) -> usize

@@ -3,7 +3,7 @@ use native.Mathlib.Omega.{arith}
 use Rattle.text_pieces.specs.TextLaws.{writes-length}
 use Rattle.label_theory.specs.Columns.{labels-fit}
 use Rattle.page_text.specs.PageSteps.{PagesSoFar, pages-start, heading-room, lines-room, pages-more, pages-all}
-use Rattle.pages.specs.Columns.{layoutOf}
+use Rattle.label_column.specs.Columns.{layoutOf}
 use borrow.Author.Needs.{needs}
 use Rattle.pages.proofs.write_all.Statement.{statement}
 use Rattle.pages.proofs.write_all.Tie as tie

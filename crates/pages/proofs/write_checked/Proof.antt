@@ -4,7 +4,7 @@ use Rattle.definitions.specs.Pages.{pagesText}
 use Rattle.table_writer.specs.WritingLaws.{text-short, text-long}
 use Rattle.label_theory.specs.Columns.{labels-fit}
 use Rattle.page_text.specs.PageSteps.{pages-is, few-pages, count-is}
-use Rattle.pages.specs.Columns.{layoutOf}
+use Rattle.label_column.specs.Columns.{layoutOf}
 use borrow.Author.Needs.{needs}
 use Rattle.pages.proofs.write_checked.Statement.{statement}
 use Rattle.pages.proofs.write_checked.Tie as tie

@@ -3,7 +3,7 @@ use lib.Count.{ones-le}
 use Rattle.definitions.specs.Limits.{mostControls}
 use Rattle.text_pieces.specs.TextLaws.{writes-length}
 use Rattle.page_text.specs.PageSteps.{line-written}
-use Rattle.pages.specs.Columns.{layoutOf}
+use Rattle.label_column.specs.Columns.{layoutOf}
 use borrow.Author.Needs.{needs}
 use Rattle.pages.proofs.write_line.Statement.{statement}
 use Rattle.pages.proofs.write_line.Tie as tie

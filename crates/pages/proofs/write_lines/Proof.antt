@@ -5,7 +5,7 @@ use borrow.Author.Tests.{ltb-true, ltb-false}
 use Rattle.text_pieces.specs.TextLaws.{writes-length}
 use Rattle.label_theory.specs.Columns.{labels-fit}
 use Rattle.page_text.specs.PageSteps.{LinesSoFar, lines-start, line-room, line-more, lines-full, lines-end}
-use Rattle.pages.specs.Columns.{layoutOf}
+use Rattle.label_column.specs.Columns.{layoutOf}
 use borrow.Author.Needs.{needs}
 use Rattle.pages.proofs.write_lines.Statement.{statement}
 use Rattle.pages.proofs.write_lines.Tie as tie

@@ -9,7 +9,7 @@ use native.Mathlib.Omega.{arith}
 use lib.Bits.{bitAnd, and-step, and-self}
 use lib.Count.{ones, ones-step, under, trailingZeros}
 use lib.Pow.{shr-shr}
-use Rattle.pages.specs.Columns.{Lowest}
+use Rattle.label_column.specs.Columns.{Lowest}
 
 module _ (k n : ℕ) (more : 0 < n / 2 → n / 2 < 2 ^ k → Lowest (n / 2) (trailingZeros k (n / 2))) where
   halved : (j : ℕ) → n / 2 ^ suc j ≡ n / 2 / 2 ^ j

@@ -1,8 +1,8 @@
 use native.Mathlib.Omega.{arith}
 use lib.ListN.{length-set}
-use Rattle.pages.proofs.NameSteps.{joint-none, joint-room, joint-one}
-use Rattle.pages.proofs.write_joint.Statement.{statement}
-use Rattle.pages.proofs.write_joint.Tie as tie
+use Rattle.label_column.proofs.NameSteps.{joint-none, joint-room, joint-one}
+use Rattle.label_column.proofs.write_joint.Statement.{statement}
+use Rattle.label_column.proofs.write_joint.Tie as tie
 
 returns : tie.Need-returns
 returns c = joint-none (c .if1 .taken) (c .before .pre)

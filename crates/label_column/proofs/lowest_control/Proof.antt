@@ -1,8 +1,8 @@
 use native.Mathlib.Omega.{arith}
 use lib.Count.{trailing-le}
-use Rattle.pages.proofs.ControlSteps.{lowest}
-use Rattle.pages.proofs.lowest_control.Statement.{statement}
-use Rattle.pages.proofs.lowest_control.Tie as tie
+use Rattle.label_column.proofs.ControlSteps.{lowest}
+use Rattle.label_column.proofs.lowest_control.Statement.{statement}
+use Rattle.label_column.proofs.lowest_control.Tie as tie
 
 cast-result : tie.Need-cast-result
 cast-result c = omega (arith, trailing-le 64 (c .args .code))

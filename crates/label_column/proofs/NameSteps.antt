@@ -12,7 +12,7 @@ use Rattle.text_pieces.specs.Text.{Writes}
 use Rattle.text_pieces.specs.TextLaws.{writes-one, writes-none}
 use Rattle.label_sheet.specs.LabelArrays.{bytesOf}
 use Rattle.label_sheet.specs.ArrayLaws.{bytes-length}
-use Rattle.pages.specs.Columns.{joint}
+use Rattle.label_column.specs.Columns.{joint}
 
 -- ---- a + if controls are left
 

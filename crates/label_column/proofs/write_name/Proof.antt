@@ -1,10 +1,10 @@
 use Prim.Native.Nat.{_-_}
 use native.Mathlib.Omega.{arith}
 use Rattle.definitions.specs.Limits.{longestLabel}
-use Rattle.pages.proofs.NameSteps.{NameSoFar, name-start, name-more, name-all}
+use Rattle.label_column.proofs.NameSteps.{NameSoFar, name-start, name-more, name-all}
 use borrow.Author.Needs.{needs}
-use Rattle.pages.proofs.write_name.Statement.{statement}
-use Rattle.pages.proofs.write_name.Tie as tie
+use Rattle.label_column.proofs.write_name.Statement.{statement}
+use Rattle.label_column.proofs.write_name.Tie as tie
 
 abbrev Inv-loop : tie.InvT-loop
 Inv-loop name at out₀ rest₀ i₀ out rest i = NameSoFar name at out₀ out rest i

@@ -6,11 +6,11 @@ use lib.Count.{ones-le}
 use lib.ListN.{length-set}
 use Rattle.definitions.specs.Limits.{mostControls}
 use Rattle.text_pieces.specs.TextLaws.{writes-length}
-use Rattle.pages.proofs.ColumnSteps.{ColumnSoFar, blank-column, column-room, no-label, no-size, column-start, rest-small, next-below}
-use Rattle.pages.proofs.ColumnSteps.{name-room, label-room, joint-fits, column-more, column-all, column-size}
+use Rattle.label_column.proofs.ColumnSteps.{ColumnSoFar, blank-column, column-room, no-label, no-size, column-start, rest-small, next-below}
+use Rattle.label_column.proofs.ColumnSteps.{name-room, label-room, joint-fits, column-more, column-all, column-size}
 use borrow.Author.Needs.{needs}
-use Rattle.pages.proofs.write_column.Statement.{statement}
-use Rattle.pages.proofs.write_column.Tie as tie
+use Rattle.label_column.proofs.write_column.Statement.{statement}
+use Rattle.label_column.proofs.write_column.Tie as tie
 
 abbrev Inv-loop : tie.InvT-loop
 Inv-loop code labels at out₀ rest₀ place₀ size₀ out rest place size = ColumnSoFar code labels at out₀ out rest place size

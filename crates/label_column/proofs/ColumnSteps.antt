@@ -29,8 +29,8 @@ use Rattle.label_theory.specs.Columns.{AllBelow, kept-below, labelled-few}
 use Rattle.label_sheet.specs.LabelArrays.{nameOf, bytesOf, labelsIn}
 use Rattle.label_sheet.specs.ArrayLaws.{name-bytes, bytes-length}
 use Rattle.page_text.specs.PageParts.{Room}
-use Rattle.pages.proofs.ControlSteps.{without-lowest, size-without}
-use Rattle.pages.specs.Columns.{Lowest, joint, Ready}
+use Rattle.label_column.proofs.ControlSteps.{without-lowest, size-without}
+use Rattle.label_column.specs.Columns.{Lowest, joint, Ready}
 
 -- ---- the labels of the controls below i
 
