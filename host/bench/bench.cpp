@@ -24,6 +24,9 @@ using Bytes = std::vector<u8>;
 
 const u32 PANELS[] = {8, 12, 14, 16};
 const u32 MODULI[] = {998244353, 2147483647, 4294967291, 4294967294, 4294967295};
+// The labels of the sheet: two of each length, one of them among the first eight.
+const std::string LABELS[] = {"gate", "bar", "seat12", "E", "restrain", "B2", "brake", "airgate",
+                              "lap", "dispatch", "A", "chain", "C3", "stop", "console", "launch"};
 const int ROUNDS = 9;
 const double SAMPLE_SECONDS = 0.03;  // calls are repeated until a sample takes about this long
 
@@ -39,7 +42,8 @@ struct Data {
     u32 weight = random(5, 1)[0];
     Table left = result, right = result, recipe_pad = Table(SPS_RECIPE_PAD_LENGTH(n), 1);
     Table few = with_nonzero(std::max<std::size_t>(1, 300 * entries >> 16)), all = with_nonzero(entries);
-    Bytes buffer = Bytes(31 * (entries + (entries + 49) / 50), 1), plain_buffer = buffer;  // for all pages; a file is shorter
+    Bytes sheet = label_sheet();
+    Bytes buffer = Bytes(158 * (entries + (entries + 49) / 50), 1), plain_buffer = buffer;  // for all pages; a file is shorter
     Bytes file = file_of(Kind::Full, a), few_full = file_of(Kind::Full, few);
     Bytes few_sparse = file_of(Kind::Sparse, few), all_sparse = file_of(Kind::Sparse, all);
 
@@ -66,6 +70,15 @@ struct Data {
             count -= chosen;
         }
         return table;
+    }
+
+    static Bytes label_sheet() {
+        Bytes bytes;
+        for (const std::string &label : LABELS) {
+            bytes.push_back(static_cast<u8>(label.size()));
+            bytes.insert(bytes.end(), label.begin(), label.end());
+        }
+        return bytes;
     }
 
     Bytes file_of(Kind kind, const Table &table) const {
@@ -236,10 +249,16 @@ std::vector<Bench> benches() {
     add_writer("sparse writer all", Kind::Sparse, &Data::all);
 
     auto add_pages = [&](std::string call, Table Data::*table) {
-        auto writer = [table](Data &d) { return sps_write_pages(d.n, d.m, LENT(table), TABLE(buffer)); };
-        add(call, "plain", writer, [table](Data &d) { return plain::write_pages(d.n, (d.*table).data(), d.plain_buffer.data()); });
-        add(call, "plain + tests", writer,
-            [table](Data &d) { return plain::write_pages_tested(d.n, d.m, LENT(table), TABLE(plain_buffer)); });
+        auto writer = [table](Data &d) { return sps_write_pages(d.n, d.m, LENT(table), TABLE(sheet), TABLE(buffer)); };
+        add(call, "plain", writer, [table](Data &d) {
+            return plain::write_pages(d.n, (d.*table).data(), d.sheet.data(), d.plain_buffer.data());
+        });
+        add(call, "plain + tests", writer, [table](Data &d) {
+            return plain::write_pages_tested(d.n, d.m, LENT(table), TABLE(sheet), TABLE(plain_buffer));
+        });
+        add(call, "tuned + tests", writer, [table](Data &d) {
+            return plain::write_pages_tuned(d.n, d.m, LENT(table), TABLE(sheet), TABLE(plain_buffer));
+        });
     };
     add_pages("pages few", &Data::few);
     add_pages("pages all", &Data::all);
@@ -326,9 +345,9 @@ int main() {
                 "\"subset product\", \"exponential\", \"full reader\" and \"full writer\" are the library's own calls, and so are\n"
                 "the calls of a recipe, made one by one. Weight is added to a board at controls from the middle of the panel;\n"
                 "tests are those of every entry, in a reader those of everything in the file, in a writer of files or pages also\n"
-                "that of the buffer's length, all made before the table or the buffer is touched. A plain reader goes over the\n"
-                "file once. In \"few\" 300 of 65,536 entries are not 0, on smaller panels the same share and at least one; in\n"
-                "\"all\" every entry.\n\n", ROUNDS);
+                "that of the buffer's length, for pages also those of everything in the label sheet, all made before the\n"
+                "table or the buffer is touched. A plain reader goes over the file once. In \"few\" 300 of 65,536 entries are not\n"
+                "0, on smaller panels the same share and at least one; in \"all\" every entry.\n\n", ROUNDS);
     std::printf("%-44s library / yardstick at n =     library's growth   n = 16 in subset\n", "");
     std::printf("%-17s %-16s %-10s %6u %6u %6u %6u     12 to 14  14 to 16   products        ms\n",
                 "call", "yardstick", "modulus", 8, 12, 14, 16);

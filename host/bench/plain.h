@@ -72,9 +72,13 @@ u64 write_table(Kind kind, u32 n, u32 m, const u32 *table, u8 *buffer);
 u64 read_table_tested(const u8 *bytes, std::size_t length, u32 *table, std::size_t table_length);
 u64 write_table_tested(Kind kind, u32 n, u32 m, const u32 *table, std::size_t table_length, u8 *buffer, std::size_t buffer_length);
 
-// Wall pages: without tests, for a buffer that is long enough; and with all tests, made before the buffer is touched.
-u64 write_pages(u32 n, const u32 *table, u8 *buffer);
-u64 write_pages_tested(u32 n, u32 m, const u32 *table, std::size_t table_length, u8 *buffer, std::size_t buffer_length);
+// Wall pages with the labels of a sheet: without tests, for a sheet that is in order and a buffer that is long enough; with all
+// tests, made before the buffer is touched; and with all tests, in the fastest form that was found.
+u64 write_pages(u32 n, const u32 *table, const u8 *sheet, u8 *buffer);
+u64 write_pages_tested(u32 n, u32 m, const u32 *table, std::size_t table_length, const u8 *sheet, std::size_t sheet_length,
+                       u8 *buffer, std::size_t buffer_length);
+u64 write_pages_tuned(u32 n, u32 m, const u32 *table, std::size_t table_length, const u8 *sheet, std::size_t sheet_length,
+                      u8 *buffer, std::size_t buffer_length);
 
 // By one of the two forms above.
 template <typename Form>

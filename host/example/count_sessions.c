@@ -1,11 +1,11 @@
-/* Counts the sessions that the exercises of a table file, full or sparse, can be put together to: count_sessions FILE.
+/* Counts the sessions that the exercises of a table file, full or sparse, can be put together to: count_sessions FILE SHEET.
  *
  * The table says how many exercises there are for each set of controls. A session uses each control of the panel exactly
  * once, so the number of sessions is the whole panel's entry of the table's exponential. That number outgrows a machine
  * word; what is printed is its residue under several moduli, each by itself. Under the file's modulus also how the sessions
  * divide by their number of exercises, which is the projection of the table that is 1 at the empty set, and of the file's; and
- * how many are left when an exercise is withdrawn, by a board. Before that, the table itself as pages for the wall, and how many
- * bytes its file of each kind has. */
+ * how many are left when an exercise is withdrawn, by a board. Before that, the table itself as pages for the wall, with the
+ * labels of the label sheet, and how many bytes its file of each kind has. */
 #include <stdio.h>
 #include <stdlib.h>
 
@@ -13,33 +13,54 @@
 
 enum {
     MOST_BYTES = 9 + 6 * (1 << SPS_MOST_CONTROLS),       /* of a file of either kind */
-    MOST_LINES = 1 << SPS_MOST_CONTROLS,                 /* on all pages; each has 31 bytes, and so has a heading */
+    MOST_SHEET_BYTES = 9 * SPS_MOST_CONTROLS,            /* of a label sheet: a length and eight bytes for each control */
+    MOST_LINES = 1 << SPS_MOST_CONTROLS,                 /* on all pages; each has 158 bytes, and so has a heading */
     MOST_PAGES = (MOST_LINES + 49) / 50
 };
 
 /* Seven bytes more than the longest file, so that the word of a longer one is decided: a count may have five bytes in place of
  * three, and one gap too many is read to its last byte, the fifth. */
 static uint8_t bytes[MOST_BYTES + 7];
-static uint8_t pages[31 * (MOST_LINES + MOST_PAGES)];
+static uint8_t sheet[MOST_SHEET_BYTES + 1]; /* one byte more, for the same reason */
+static uint8_t pages[158 * (MOST_LINES + MOST_PAGES)];
 static uint32_t table[1 << SPS_MOST_CONTROLS];
 
-static void show_set(uint32_t code) {
-    const char *separator = "";
-    printf("  {");
-    for (int control = 0; code >> control != 0; control++) {
-        if (code >> control & 1) {
-            printf("%s%d", separator, control);
-            separator = " ";
-        }
+static size_t read_file(const char *name, uint8_t *buffer, size_t most) {
+    FILE *file = fopen(name, "rb");
+    if (file == NULL) {
+        perror(name);
+        exit(EXIT_FAILURE);
     }
-    printf("}");
+    size_t length = fread(buffer, 1, most, file);
+    fclose(file);
+    return length;
 }
 
-/* The buffer has room for the pages of every table, so the call is not refused. */
-static void show_pages(uint32_t n, uint32_t m) {
-    uint64_t written = sps_write_pages(n, m, table, SPS_TABLE_LENGTH(n), pages, sizeof pages);
+static void refuse(const char *name, uint64_t number) {
+    printf("%s: refused %lu\n", name, (unsigned long)number);
+    exit(EXIT_FAILURE);
+}
+
+/* The table is in order and the buffer has room for the pages of every table, so only the label sheet may be refused. */
+static void show_pages(uint32_t n, uint32_t m, const char *sheet_name) {
+    size_t length = read_file(sheet_name, sheet, sizeof sheet);
+    uint64_t written = sps_write_pages(n, m, table, SPS_TABLE_LENGTH(n), sheet, length, pages, sizeof pages);
+    if ((uint32_t)written != SPS_ACCEPTED) refuse(sheet_name, (uint32_t)written);
     printf("exercises for a set of controls, as pages for the wall:\n");
     fwrite(pages, 1, (size_t)(written >> 32), stdout);
+}
+
+/* The labels of the set's controls. The sheet is accepted by now, so each length is one byte. */
+static void show_set(uint32_t code) {
+    const uint8_t *label = sheet;
+    const char *separator = "";
+    for (; code != 0; code >>= 1) {
+        if (code & 1) {
+            printf("%s%.*s", separator, label[0], (const char *)label + 1);
+            separator = "+";
+        }
+        label += 1 + label[0];
+    }
 }
 
 /* Writes the table as a file of each kind, and says how long they are. */
@@ -102,6 +123,7 @@ static void withdraw_exercise(uint32_t n, uint32_t m) {
     if (number == SPS_ACCEPTED && first != 0) number = sps_board_take(n, m, first, 1, a, length, e, length);
     if (first != 0) {
         printf("sessions without one exercise for a set, modulo %lu:\n", (unsigned long)m);
+        printf("  ");
         show_set(first);
         if (number == SPS_ACCEPTED) {
             printf(" %lu\n", (unsigned long)e[length - 1]);
@@ -125,28 +147,18 @@ static void show_sessions(uint32_t n, uint32_t m) {
 }
 
 int main(int count, char **words) {
-    if (count != 2) {
-        fprintf(stderr, "usage: count_sessions FILE\n");
+    if (count != 3) {
+        fprintf(stderr, "usage: count_sessions FILE SHEET\n");
         return EXIT_FAILURE;
     }
-    FILE *file = fopen(words[1], "rb");
-    if (file == NULL) {
-        perror(words[1]);
-        return EXIT_FAILURE;
-    }
-    size_t length = fread(bytes, 1, sizeof bytes, file);
-    fclose(file);
-
+    size_t length = read_file(words[1], bytes, sizeof bytes);
     uint64_t header = sps_header_check(bytes, length);
     uint32_t n = (uint32_t)(header >> 32) & 0xff, m = (uint32_t)header;
     uint64_t number = header >> 40;
     if (number == SPS_ACCEPTED) number = sps_read_table(bytes, length, table, SPS_TABLE_LENGTH(n)) >> 40;
-    if (number != SPS_ACCEPTED) {
-        printf("%s: refused %lu\n", words[1], (unsigned long)number);
-        return EXIT_FAILURE;
-    }
+    if (number != SPS_ACCEPTED) refuse(words[1], number);
     printf("%s: %lu controls, modulus %lu\n", words[1], (unsigned long)n, (unsigned long)m);
-    show_pages(n, m);
+    show_pages(n, m, words[2]);
     show_lengths(n, m);
     show_sessions(n, m);
     return EXIT_SUCCESS;

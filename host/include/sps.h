@@ -14,10 +14,10 @@
  * After an accepted call these are 0, and the rest of a longer pad is unchanged.
  *
  * Refusals.  A call answers with a number: 0 when it is accepted, else that of the first of its conditions that applies, in
- * the order in which its comment names them.  (It rises, except in reading files, in changes of boards and in recipes.)
- * Functions that answer more return it packed with the number into 64 bits, as each says.  A refused call changes nothing
- * that it was lent, with one exception: where one of a recipe's calls refuses, the recipe's stated pad is 0 afterwards, and
- * its result as it came.  Every other number that a refused call answers is 0.
+ * the order in which its comment names them.  (It rises, except in reading files, in changes of boards, in recipes and in
+ * writing pages.)  Functions that answer more return it packed with the number into 64 bits, as each says.  A refused call
+ * changes nothing that it was lent, with one exception: where one of a recipe's calls refuses, the recipe's stated pad is 0
+ * afterwards, and its result as it came.  Every other number that a refused call answers is 0.
  */
 #ifndef SPS_H
 #define SPS_H
@@ -34,15 +34,17 @@ enum {
     SPS_ENTRY = 5,    /* an input entry, or the weight of a change, not below m */
     SPS_START = 6,    /* a first entry that the call, or one of a recipe's calls, does not take */
     SPS_HALVING = 7,  /* xor product with m even, also in a recipe */
-    SPS_GROUP = 8,    /* a number in a file ends early, is not in its shortest form, or is 2^32 or more */
-    SPS_TAIL = 9,     /* bytes after the last entry of a file */
+    SPS_GROUP = 8,    /* in a file or sheet: a number or label ends early; a number not in its shortest form, or 2^32 or more */
+    SPS_TAIL = 9,     /* bytes after the last entry of a file, or after the last label of a sheet */
     SPS_SHORT = 10,   /* the buffer is shorter than the file, or than all pages */
     SPS_EMPTY = 11,   /* a change at the empty set */
     SPS_CODE = 12,    /* a change at a code of 2^n or more */
     SPS_RECIPE = 13,  /* the line of a recipe has more than 120 bytes or is outside the grammar */
     SPS_NESTING = 14, /* the parentheses of a recipe nest deeper than 8 */
     SPS_GAP = 15,     /* a gap in a sparse file leads to code 2^n or beyond */
-    SPS_ZERO = 16     /* a value in a sparse file is 0 */
+    SPS_ZERO = 16,    /* a value in a sparse file is 0 */
+    SPS_LABEL = 17,   /* a label not of 1 to 8 bytes, or with a byte that is no ASCII letter or digit */
+    SPS_EQUAL = 18    /* two labels of a sheet are equal */
 };
 
 #define SPS_MOST_CONTROLS 16
@@ -223,17 +225,25 @@ uint64_t sps_write_sparse(uint32_t n, uint32_t m,
                           uint8_t *buffer, size_t buffer_len);
 
 /* ---- Wall pages ----------------------------------------------------------------------------------------------------
- * Each nonzero entry has one line, and no other has, in rising code: the set as letters a to p for controls 0 to 15 in rising
- * order, or - for the empty set, filled with blanks to 16; one blank; the size in decimal, right-aligned in 2; one blank; the
+ * A label sheet has the labels of controls 0 to 15, always all sixteen, then nothing.  A label stands there as its length, a
+ * number written as in table files, and that many bytes: 1 to 8, each an ASCII letter or digit.  No two labels are equal; large
+ * and small letters differ.  So a sheet whose first labels are gate and bar begins 04 67 61 74 65 03 62 61 72.  An accepted
+ * sheet has 32 to 144 bytes.
+ *
+ * Each nonzero entry has one line, and no other has, in rising code: the labels of the set's controls in rising order, joined
+ * by +, or - for the empty set, filled with blanks to 143; one blank; the size in decimal, right-aligned in 2; one blank; the
  * value in decimal, right-aligned in 10; a line feed.  Each page begins with a heading, the number of the page from 1 and the
- * number of pages, such as "page 1 of 3", filled with blanks to 30, and a line feed; then come 50 lines, 1 to 50 on the last
- * page.  A table of zeros has one page with only its heading.  Lines and headings have 31 bytes each, so all pages have at most
- * 31 * (2^n + (2^n + 49) / 50), the quotient rounded down. */
+ * number of pages, such as "page 1 of 3", filled with blanks to 157, and a line feed; then come 50 lines, 1 to 50 on the last
+ * page.  A table of zeros has one page with only its heading.  Lines and headings have 158 bytes each, so all pages have at
+ * most 158 * (2^n + (2^n + 49) / 50), the quotient rounded down. */
 
-/* Fills the start of the buffer with all pages of the table and leaves the bytes behind them unchanged; no 0 ends them.
- * Returns bytes written * 2^32 + number.  Refusals 1, 2, 3, 5, 10.  Time 2^n. */
+/* Fills the start of the buffer with all pages of the table and leaves the bytes behind them unchanged; no 0 ends them.  The
+ * labels are the bytes of a label sheet.  Returns bytes written * 2^32 + number.  Refusals 1, 2, 3, 5; then in sheet order of
+ * each label the length (8, then 17) and each byte (8 if the sheet ends before it, then 17), and the end (9); then two equal
+ * labels (18); then 10.  Time 2^n. */
 uint64_t sps_write_pages(uint32_t n, uint32_t m,
                          const uint32_t *table, size_t table_len,
+                         const uint8_t *labels, size_t labels_len,
                          uint8_t *buffer, size_t buffer_len);
 
 #ifdef __cplusplus

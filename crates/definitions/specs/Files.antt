@@ -171,7 +171,7 @@ abbrev pub readContents : Kind → ℕ → ℕ → List ℕ → Outcome Entries
 readContents full long m bytes = readEntries long m bytes
 readContents sparse long m bytes = andThen (readNumber bytes) (λ count. readPairs (count .value) long m (count .rest))
 
--- 9, tail: bytes after the last entry
+-- 9, tail: bytes after the last entry, or after the last label of a sheet
 abbrev pub tailWord : List ℕ → ℕ
 tailWord rest = wordIf (not (eqb (length rest) 0)) 9
 

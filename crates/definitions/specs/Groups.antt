@@ -1,4 +1,4 @@
--- Numbers in a file: groups of seven bits, lowest group first, one to a byte; the top bit is 1 when another group follows.
+-- Numbers in a table file or a label sheet: groups of seven bits, lowest group first, one to a byte; the top bit is 1 when another group follows.
 -- The shortest form is the only one allowed, and values stay below 2 ^ 32.
 use mathlib.Core.Bool.{cond, _&&_, not}
 use mathlib.Core.List.{List, [], _∷_}

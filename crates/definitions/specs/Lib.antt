@@ -12,6 +12,7 @@ pub mod Recipes
 pub mod Groups
 pub mod Files
 pub mod Show
+pub mod Sheets
 pub mod Pages
 pub mod Worked
 pub mod WorkedBoards

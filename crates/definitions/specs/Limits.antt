@@ -33,3 +33,7 @@ deepestNesting = 8
 -- how many entries of its pad a recipe uses: W, and 32 tables
 unfoldable pub recipePadLength : ℕ → ℕ
 recipePadLength n = padLength n + 32 * 2 ^ n
+
+-- the most bytes that a label has
+abbrev pub longestLabel : ℕ
+longestLabel = 8

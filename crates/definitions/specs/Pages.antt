@@ -1,6 +1,6 @@
 -- 02's pages for the training room wall, as bytes: a line for each nonzero entry of a table, 50 to a page, each page under its
--- heading. First for any layout, which is the text of the set column, its width and the width of the heading; then with letters,
--- and the call that writes them to a lent buffer.
+-- heading. First for any layout, which is the text of the set column, its width and the width of the heading; then with the labels
+-- of a sheet, and the call that writes them to a lent buffer.
 use mathlib.Core.Bool.{Bool, cond, not}
 use mathlib.Core.List.{List, [], _∷_, _++_, map, flatMap}
 use Prim.Native.Nat.{ℕ, _+_, _*_, _-_, _/_, _%_, _^_, max}
@@ -11,6 +11,7 @@ use Rattle.definitions.specs.Sums.{tabulate, keep, at}
 use Rattle.definitions.specs.Sets.{size}
 use Rattle.definitions.specs.Refusals.{firstWord, panelWord, modulusWord, tableWord, entryWord, bufferWord, after, valueAfter}
 use Rattle.definitions.specs.Show.{decimal}
+use Rattle.definitions.specs.Sheets.{labelOf, sheetNumber, sheetLabels}
 
 -- ---- filling and aligning
 
@@ -80,7 +81,7 @@ pageText y A i = heading (y .headingWidth) (i + 1) (pageCount A) ++ linesOf y A 
 unfoldable pub pagesText : Layout → List ℕ → List ℕ
 pagesText y A = flatMap (pageText y A) (tabulate (pageCount A) (λ i. i))
 
--- ---- letters
+-- ---- labels
 
 -- control i is in the set if bit i of its code is 1
 abbrev pub has : ℕ → ℕ → Bool
@@ -94,37 +95,44 @@ controlsOf S = keep (has S) (tabulate mostControls (λ i. i))
 abbrev pub orDash : ℕ → List ℕ → List ℕ
 orDash S text = cond (eqb S 0) (45 ∷ []) text
 
--- a to p for controls 0 to 15
-abbrev pub letter : ℕ → ℕ
-letter i = 97 + i
+-- some texts joined by +
+unfoldable pub joined : List (List ℕ) → List ℕ
+joined [] = []
+joined (x ∷ []) = x
+joined (x ∷ y ∷ ys) = x ++ (43 ∷ joined (y ∷ ys))
 
-unfoldable pub letters : ℕ → List ℕ
-letters S = orDash S (map letter (controlsOf S))
+-- the labels of a set's controls, in rising order
+abbrev pub labelsOf : List (List ℕ) → ℕ → List (List ℕ)
+labelsOf ls S = map (labelOf ls) (controlsOf S)
 
-abbrev pub letterLayout : Layout
-letterLayout = record { column = letters; columnWidth = 16; headingWidth = 30 }
+unfoldable pub labelled : List (List ℕ) → ℕ → List ℕ
+labelled ls S = orDash S (joined (labelsOf ls S))
 
--- ---- the call, whose buffer has b bytes
+abbrev pub labelLayout : List (List ℕ) → Layout
+labelLayout ls = record { column = labelled ls; columnWidth = 143; headingWidth = 157 }
 
--- the pages of a table
-abbrev pub wallPages : List ℕ → List ℕ
-wallPages A = pagesText letterLayout A
+-- ---- the call, which takes the bytes of a sheet, and whose buffer has b bytes
 
-unfoldable pub pagesNumber : ℕ → ℕ → List ℕ → ℕ → ℕ
-pagesNumber n m A b =
+-- the pages of a table, with the labels of the sheet
+abbrev pub wallPages : List ℕ → List ℕ → List ℕ
+wallPages sheet A = pagesText (labelLayout (sheetLabels sheet)) A
+
+unfoldable pub pagesNumber : ℕ → ℕ → List ℕ → List ℕ → ℕ → ℕ
+pagesNumber n m A sheet b =
     firstWord
     (panelWord n
     ∷ modulusWord m
     ∷ tableWord n (length A)
     ∷ entryWord m A
-    ∷ bufferWord b (length (wallPages A))
+    ∷ sheetNumber sheet
+    ∷ bufferWord b (length (wallPages sheet A))
     ∷ [])
 
 -- how many bytes are written
-abbrev pub pagesWritten : ℕ → ℕ → List ℕ → ℕ → ℕ
-pagesWritten n m A b = valueAfter (pagesNumber n m A b) (length (wallPages A))
+abbrev pub pagesWritten : ℕ → ℕ → List ℕ → List ℕ → ℕ → ℕ
+pagesWritten n m A sheet b = valueAfter (pagesNumber n m A sheet b) (length (wallPages sheet A))
 
 -- the buffer starts with the pages, and the bytes behind them are unchanged
-abbrev pub pagesBuffer : ℕ → ℕ → List ℕ → List ℕ → List ℕ
-pagesBuffer n m A old =
-    after (pagesNumber n m A (length old)) (wallPages A ++ drop (length (wallPages A)) old) old
+abbrev pub pagesBuffer : ℕ → ℕ → List ℕ → List ℕ → List ℕ → List ℕ
+pagesBuffer n m A sheet old =
+    after (pagesNumber n m A sheet (length old)) (wallPages sheet A ++ drop (length (wallPages sheet A)) old) old

@@ -2,3 +2,4 @@ pub mod Codes
 pub mod Widths
 pub mod Paging
 pub mod PageLaws
+pub mod Places

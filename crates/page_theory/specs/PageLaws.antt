@@ -1,38 +1,15 @@
--- What 02 says of lines and pages, as theorems.
---   line-bytes, heading-bytes    a line has 31 bytes, and a heading 31
---   paged                        which entries have a line, in which order, and how many lines a page has
---   pages-bytes, pages-most      how many bytes all pages have, and how many at most
+-- What 02 says of lines and pages, as a theorem over any layout.
+--   paged    which entries have a line, in which order, and how many lines a page has
 use mathlib.Core.Path.{_≡_, refl}
 use mathlib.Core.Bool.{cond}
 use mathlib.Core.List.{List, _++_, flatMap}
 use mathlib.Core.Logic.{_≢_}
-use Prim.Native.Nat.{ℕ, _+_, _*_, _^_, _<_, _≤_}
-use native.Mathlib.Omega.{arith}
+use Prim.Native.Nat.{ℕ, _+_, _<_, _≤_}
 use lib.ListN.{length}
-use Rattle.definitions.specs.Limits.{mostControls}
 use Rattle.definitions.specs.Sums.{tabulate, at}
-use Rattle.definitions.specs.Pages.{Layout, letterLayout, lineOf, heading, nonzeroCodes, pagesFor, pageCount, onPage, linesOf, pageText, pagesText, wallPages}
-use Rattle.page_theory.specs.Widths.{line-length, heading-length, letters-fit}
-use Rattle.page_theory.specs.Codes.{nonzero, times, codes-once, codes-rise, codes-few, codes-none, codes-some}
-use Rattle.page_theory.specs.Paging.{full-page, last-page, only-heading, all-lines, pages-length, pages-mono}
-
--- ---- bytes
-
-pub line-bytes : (S v : ℕ) → S < 2 ^ mostControls → length (lineOf letterLayout S v) ≡ 31
-line-bytes S v h = line-length letters-fit S v h
-
-pub heading-bytes : (number pages : ℕ) → length (heading (letterLayout .headingWidth) number pages) ≡ 31
-heading-bytes number pages = heading-length letters-fit number pages
-
-module _ (A : List ℕ) (small : length A ≤ 2 ^ mostControls) where
-  pub pages-bytes : length (wallPages A) ≡ 31 * (length (nonzeroCodes A) + pageCount A)
-  pages-bytes = pages-length letters-fit A small
-
-  -- and at most: each entry has at most one line
-  pub pages-most : length (wallPages A) ≤ 31 * (length A + pagesFor (length A))
-  pages-most = omega (arith, pages-bytes, codes-few A, pages-mono (codes-few A))
-
--- ---- lines
+use Rattle.definitions.specs.Pages.{Layout, lineOf, heading, nonzeroCodes, pageCount, onPage, linesOf, pageText, pagesText}
+use Rattle.page_theory.specs.Codes.{nonzero, times, codes-once, codes-rise, codes-none, codes-some}
+use Rattle.page_theory.specs.Paging.{full-page, last-page, only-heading, all-lines}
 
 abbrev pub pageOf : Layout → List ℕ → ℕ → List ℕ
 pageOf y A i = heading (y .headingWidth) (i + 1) (pageCount A) ++ flatMap (λ S. lineOf y S (at A S)) (onPage A i)

@@ -1,26 +1,23 @@
 -- How long lines and headings are.
 --   length-filled, length-aligned   a text that fits its width
 --   line-length, heading-length     of a layout that fits (Fits)
---   letters-fit                     letters do: 31 bytes
-use mathlib.Core.Path.{_≡_, refl, sym, _∙_, ap}
+--   dash-few                        a text that fits, or `-` for the empty set, fits
+use mathlib.Core.Path.{_≡_, sym, _∙_, ap}
 use mathlib.Core.Bool.{Bool, true, false, cond}
-use mathlib.Core.List.{List, [], _∷_, _++_, map}
+use mathlib.Core.List.{List, [], _∷_, _++_}
 use mathlib.Core.Logic.{⊎-elim}
 use Prim.Native.Nat.{ℕ, _+_, _-_, _/_, _%_, _^_, _<_, _≤_}
 use native.Mathlib.Omega.{arith}
 use lib.Count.{ones-le}
 use lib.Dec.{eqb}
-use lib.ListN.{length, replicate, length-append, length-replicate, length-map}
+use lib.ListN.{length, replicate, length-append, length-replicate}
 use Rattle.definitions.specs.Limits.{mostControls}
-use Rattle.definitions.specs.Sums.{tabulate, keep, at}
 use Rattle.definitions.specs.Sets.{size}
 use Rattle.definitions.specs.Show.{decimal}
 use Rattle.theory.specs.Tests.{below-or}
-use Rattle.theory.specs.Lists.{length-tabulate}
 use Rattle.text_pieces.specs.TextLaws.{decimal-last, decimal-more, decimal-few}
-use Rattle.page_theory.specs.Codes.{keep-few}
 use Rattle.definitions.specs.Pages.{filled, aligned, Layout, behindColumn, lineOf, headingText, heading}
-use Rattle.definitions.specs.Pages.{has, controlsOf, orDash, letter, letters, letterLayout}
+use Rattle.definitions.specs.Pages.{orDash}
 
 -- ---- widths
 
@@ -88,11 +85,7 @@ module _ {y : Layout} {L : ℕ} (f : Fits y L) where
   pub heading-length : (p q : ℕ) → length (heading (y .headingWidth) p q) ≡ L
   heading-length p q = length-heading (y .headingWidth) p q (f .wide) ∙ sym (f .heading-long)
 
--- ---- letters
-
-pub controls-few : (S : ℕ) → length (controlsOf S) ≤ 16
-unfolding controlsOf
-controls-few S = omega (arith, keep-few (has S) (tabulate mostControls (λ i. i)), length-tabulate mostControls (λ i. i))
+-- ---- the empty set's column
 
 pub dash-few : (S : ℕ) (text : List ℕ) (k : ℕ) → length text ≤ k → 1 ≤ k → length (orDash S text) ≤ k
 dash-few S text k h l = by (eqb S 0)
@@ -100,10 +93,3 @@ dash-few S text k h l = by (eqb S 0)
     by : (t : Bool) → length (cond t (45 ∷ []) text) ≤ k
     by true = l
     by false = h
-
-pub letters-few : (S : ℕ) → length (letters S) ≤ 16
-unfolding letters
-letters-few S = dash-few S (map letter (controlsOf S)) 16 (omega (arith, length-map (controlsOf S) letter, controls-few S)) (omega arith)
-
-pub letters-fit : Fits letterLayout 31
-letters-fit = record { columns = λ S h. letters-few S; line-long = refl; heading-long = refl; wide = omega arith }

@@ -271,10 +271,16 @@ pub extern "C" fn sps_write_sparse(n: u32, m: u32, table: &[u32], buffer: &mut [
 }
 
 #[no_mangle]
-pub extern "C" fn sps_write_pages(n: u32, m: u32, table: &[u32], buffer: &mut [u8]) -> u64
-    ensures { λ r. ⌜ r ≡ withNumber (pagesWritten n m (now (table .entry)) (length (now (buffer .entry)))) (pagesNumber n m (now (table .entry)) (length (now (buffer .entry)))) ⌝ }
-    ensures { λ _. ⌜ now (buffer .exit) ≡ pagesBuffer n m (now (table .entry)) (now (buffer .entry)) ⌝ }
+pub extern "C" fn sps_write_pages(
+    n: u32,
+    m: u32,
+    table: &[u32],
+    labels: &[u8],
+    buffer: &mut [u8],
+) -> u64
+    ensures { λ r. ⌜ r ≡ withNumber (pagesWritten n m (now (table .entry)) (now (labels .entry)) (length (now (buffer .entry)))) (pagesNumber n m (now (table .entry)) (now (labels .entry)) (length (now (buffer .entry)))) ⌝ }
+    ensures { λ _. ⌜ now (buffer .exit) ≡ pagesBuffer n m (now (table .entry)) (now (labels .entry)) (now (buffer .entry)) ⌝ }
 {
-    let written = pages::write_pages(n, m, table, buffer);
+    let written = pages::write_pages(n, m, table, labels, buffer);
     with_number(written.count, written.number)
 }

@@ -3,7 +3,7 @@
 --   decimal-left, aligned-last, aligned-left  a number aligned to the right, by its last byte
 --   writes-append, writes-byte, writes-one, writes-none   one piece behind another, one byte, nothing
 --   writes-length, writes-room                the buffer is as long as it was; room behind a piece
---   writes-front, writes-over, writes-again   a byte in front of a piece, one inside it changed, all of it written over;
+--   writes-front, writes-again, writes-inside a byte in front of a piece, all of it written over, a piece inside it;
 --                                             writes-there: it is there already
 --   filled-written                            a piece, and blanks behind it
 --   flatMap-one                               one text more behind some
@@ -149,7 +149,7 @@ writes-none old i h = record { next-is = omega arith; text-is = refl; within = h
 pub writes-same : {old a b last : List ℕ} {i k : ℕ} → a ≡ b → Writes old i a k last → Writes old i b k last
 writes-same e w = rw (sym e) w
 
--- ---- one byte in front of a piece, and one inside it
+-- ---- one byte in front of a piece, and a piece over another
 
 -- a byte before some that are stored
 set-before : (l : List ℕ) (i j b : ℕ) (vs : List ℕ) → i < j → set (sets l j vs) i b ≡ sets (set l i b) j vs
@@ -164,25 +164,6 @@ writes-front {old} {text} {mid} {i} {j} b e w = record {
   text-is = ap (λ (l : List ℕ). set l i b) (w .text-is ∙ ap (λ (k : ℕ). sets old k text) e) ∙ set-before old i (suc i) b text (omega arith);
   within = omega (arith, w .within, length-set mid i b);
 }
-
-pub writes-over : {old mid : List ℕ} {i next : ℕ} (x : List ℕ) (c b : ℕ) (y : List ℕ) {j : ℕ} → j ≡ i + length x →
-    Writes old i (x ++ (c ∷ y)) next mid → Writes old i (x ++ (b ∷ y)) next (set mid j b)
-writes-over {old} {mid} {i} x c b y {j} e w = record {
-  next-is = w .next-is ∙ ap (λ (k : ℕ). i + k) (length-append x (c ∷ y) ∙ sym (length-append x (b ∷ y)));
-  text-is =
-      ap (λ (l : List ℕ). set l j b) (w .text-is ∙ sets-append old i x (c ∷ y))
-      ∙ rw e
-      (set-before (set front place c) place (suc place) b y (omega arith)
-      ∙ ap (λ (l : List ℕ). sets l (suc place) y) (set-set front place c b)
-      ∙ sym (sets-append old i x (b ∷ y)));
-  within = omega (arith, w .within, length-set mid j b);
-}
-  where
-    front : List ℕ
-    front = sets old i x
-
-    place : ℕ
-    place = i + length x
 
 -- one piece over another that is as long
 sets-again : (l : List ℕ) (i : ℕ) (a b : List ℕ) → length a ≡ length b → sets (sets l i a) i b ≡ sets l i b
@@ -200,6 +181,34 @@ writes-again {old} {a} {b} {i = i} e v w = record {
   text-is = w .text-is ∙ ap (λ (l : List ℕ). sets l i b) (v .text-is) ∙ sets-again old i a b e;
   within = w .within;
 }
+
+-- some bytes before others that are stored
+sets-before : (l : List ℕ) (i j : ℕ) (b vs : List ℕ) → i + length b ≤ j → sets (sets l j vs) i b ≡ sets (sets l i b) j vs
+sets-before l i j [] vs h = refl
+sets-before l i j (x ∷ b) vs h =
+    ap (λ (m : List ℕ). sets m (suc i) b) (set-before l i j x vs (omega arith)) ∙ sets-before (set l i x) (suc i) j b vs (omega arith)
+
+-- a piece inside another, in place of one that is as long
+pub writes-inside : {old mid last : List ℕ} {i next : ℕ} (x a b y : List ℕ) {j r : ℕ} → j ≡ i + length x → length a ≡ length b →
+    Writes old i (x ++ (a ++ y)) next mid → Writes mid j b r last → Writes old i (x ++ (b ++ y)) next last
+writes-inside {old} {mid} {last} {i} x a b y {j} e f v w = record {
+  next-is = omega (arith, v .next-is, length-append x (a ++ y), length-append a y, length-append x (b ++ y), length-append b y);
+  text-is =
+      w .text-is
+      ∙ ap (λ (l : List ℕ). sets l j b) (v .text-is ∙ sets-append old i x (a ++ y) ∙ sets-append front place a y)
+      ∙ rw e
+      (sets-before (sets front place a) place (place + length a) b y (omega arith)
+      ∙ ap (λ (l : List ℕ). sets l (place + length a) y) (sets-again front place a b f)
+      ∙ ap (λ (k : ℕ). sets (sets front place b) (place + k) y) f
+      ∙ sym (sets-append old i x (b ++ y) ∙ sets-append front place b y));
+  within = omega (arith, v .within, writes-length w);
+}
+  where
+    front : List ℕ
+    front = sets old i x
+
+    place : ℕ
+    place = i + length x
 
 -- a piece that is there already
 pub writes-there : {old a mid : List ℕ} {i k : ℕ} → Writes old i a k mid → Writes mid i a k mid

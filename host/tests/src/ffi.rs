@@ -39,7 +39,7 @@ mod raw {
             buffer: *mut u8, buffer_len: usize) -> u64;
         pub fn sps_write_sparse(n: u32, m: u32, table: *const u32, table_len: usize,
             buffer: *mut u8, buffer_len: usize) -> u64;
-        pub fn sps_write_pages(n: u32, m: u32, table: *const u32, table_len: usize,
+        pub fn sps_write_pages(n: u32, m: u32, table: *const u32, table_len: usize, labels: *const u8, labels_len: usize,
             buffer: *mut u8, buffer_len: usize) -> u64;
     }
 }
@@ -125,7 +125,8 @@ pub fn write_sparse(n: u32, m: u32, table: &[u32], buffer: &mut [u8]) -> u64 {
     unsafe { raw::sps_write_sparse(n, m, table.as_ptr(), table.len(), buffer.as_mut_ptr(), buffer.len()) }
 }
 
-pub fn write_pages(n: u32, m: u32, table: &[u32], buffer: &mut [u8]) -> u64 {
+pub fn write_pages(n: u32, m: u32, table: &[u32], labels: &[u8], buffer: &mut [u8]) -> u64 {
+    let (table, labels) = ((table.as_ptr(), table.len()), (labels.as_ptr(), labels.len()));
     // Sound: as above.
-    unsafe { raw::sps_write_pages(n, m, table.as_ptr(), table.len(), buffer.as_mut_ptr(), buffer.len()) }
+    unsafe { raw::sps_write_pages(n, m, table.0, table.1, labels.0, labels.1, buffer.as_mut_ptr(), buffer.len()) }
 }

@@ -12,6 +12,7 @@ mod reference;
 // The tests, by subject.
 mod boards;
 mod entrywise;
+mod labels;
 mod laws;
 mod pages;
 mod panelshow;

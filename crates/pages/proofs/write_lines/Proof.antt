@@ -2,25 +2,25 @@ use Prim.Native.Nat.{_-_}
 use native.Mathlib.Omega.{arith}
 use lib.ListN.{length}
 use borrow.Author.Tests.{ltb-true, ltb-false}
-use Rattle.definitions.specs.Pages.{letterLayout}
 use Rattle.text_pieces.specs.TextLaws.{writes-length}
-use Rattle.page_theory.specs.Widths.{letters-fit}
+use Rattle.label_theory.specs.Columns.{labels-fit}
 use Rattle.page_text.specs.PageSteps.{LinesSoFar, lines-start, line-room, line-more, lines-full, lines-end}
+use Rattle.label_column.specs.Columns.{layoutOf}
 use borrow.Author.Needs.{needs}
 use Rattle.pages.proofs.write_lines.Statement.{statement}
 use Rattle.pages.proofs.write_lines.Tie as tie
 
 abbrev Inv-loop : tie.InvT-loop
-Inv-loop table first at out₀ place₀ code₀ left₀ out place code left = LinesSoFar letterLayout 31 table first out₀ at out place code left
+Inv-loop table labels first at out₀ place₀ code₀ left₀ out place code left = LinesSoFar (layoutOf labels) 158 table first out₀ at out place code left
 
 abbrev μ-loop : tie.MeasureT-loop
-μ-loop table first at out₀ place₀ code₀ left₀ out place code left = length table - code
+μ-loop table labels first at out₀ place₀ code₀ left₀ out place code left = length table - code
 
 next-entry-requires : tie.Need-next-entry-requires Inv-loop μ-loop
-next-entry-requires c κs = c .before .before .pre .from
+next-entry-requires c κs = c .before .before .before .pre .1 .from
 
 loop-holds : tie.Need-loop-holds Inv-loop μ-loop
-loop-holds c = lines-start letterLayout 31 _ _ _ _ (omega (arith, c .before .before .before .pre .room)) (c .next-entry .ensures)
+loop-holds c = lines-start (layoutOf _) 158 _ _ _ _ (omega (arith, c .before .before .before .before .pre .1 .room)) (c .next-entry .ensures)
 
 mul-write-line : tie.Need-mul-write-line Inv-loop μ-loop
 mul-write-line c = search needs
@@ -33,11 +33,13 @@ write-line-requires c κs =
     let at-left = c .before .before in
     let at-test = at-left .before in
     let at-loop = at-test .before in
-    let start = at-loop .before .before .before .before in
-    record {
-      code = omega (arith, start .pre .small, at-test .loop-test .taken);
-      room = line-room (at-loop .loop .inv) (at-test .loop-test .taken) (ltb-true 0 _ (at-left .if1 .taken)) (start .pre);
-    }
+    let start = at-loop .before .before .before .before .before in (
+      start .pre .0,
+      record {
+        code = omega (arith, start .pre .1 .small, at-test .loop-test .taken);
+        room = line-room (at-loop .loop .inv) (at-test .loop-test .taken) (ltb-true 0 _ (at-left .if1 .taken)) (start .pre .1);
+      },
+    )
 
 sub-left : tie.Need-sub-left Inv-loop μ-loop
 sub-left c = omega (arith, ltb-true 0 (c .before .before .before .before .before .before .before .loop .left) (c .before .before .before .before .before .if1 .taken))
@@ -57,8 +59,8 @@ loop-again c =
     let at-left = at-line .before .before .before in
     let at-test = at-left .before in
     let at-loop = at-test .before in
-    let start = at-loop .before .before .before .before in
-    line-more (at-loop .loop .inv) (at-test .loop-test .taken) (ltb-true 0 _ (at-left .if1 .taken)) letters-fit (start .pre .small)
+    let start = at-loop .before .before .before .before .before in
+    line-more (at-loop .loop .inv) (at-test .loop-test .taken) (ltb-true 0 _ (at-left .if1 .taken)) (labels-fit _ (start .pre .0 .good)) (start .pre .1 .small)
     (at-line .write-line .ensures) (c .next-entry2 .ensures)
 
 same-length : tie.Need-same-length Inv-loop μ-loop

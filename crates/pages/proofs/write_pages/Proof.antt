@@ -1,8 +1,6 @@
 use denote.Ref.{now}
-use lib.ListN.{length}
-use Rattle.definitions.specs.Pages.{wallPages}
-use Rattle.table_writer.specs.WritingLaws.{few-entries, as-written, as-refused}
-use Rattle.pages.proofs.CallSteps.{by-tests}
+use Rattle.table_writer.specs.WritingLaws.{few-entries}
+use Rattle.pages.proofs.CallSteps.{as-written, as-refused}
 use borrow.Author.Needs.{needs}
 use Rattle.pages.proofs.write_pages.Statement.{statement}
 use Rattle.pages.proofs.write_pages.Tie as tie
@@ -13,9 +11,9 @@ check-table-requires c κs = search needs
 enum-told : tie.Need-enum-told
 enum-told c = search needs
 
-write-checked-requires : tie.Need-write-checked-requires
-write-checked-requires c κs =
-    let start = c .before .before .before .before .before .before in
+write-labelled-requires : tie.Need-write-labelled-requires
+write-labelled-requires c κs =
+    let start = c .before .before .before .before .before .before .before in
     few-entries (start .args .n) (start .args .m) (now (start .args .table)) (c .before .before .before .check-table .ensures) (c .before .enum-told .given .1)
 
 enum-known-word : tie.Need-enum-known-word
@@ -31,23 +29,19 @@ returns : tie.Need-returns
 returns c =
     let at-told = c .before .before .before .before in
     let at-checked = at-told .before .before in
-    let start = at-checked .before .before .before in
-    let table = now (start .args .table) in
-    let buffer = now (start .args .buffer) in
+    let start = at-checked .before .before .before .before in
     let w =
-    as-written (start .args .n) (start .args .m) table (at-checked .check-table .ensures) (wallPages table) buffer
-    (by-tests (start .args .n) (start .args .m) table (length buffer)) (at-told .enum-told .given .1) (c .before .before .write-checked .ensures) in
+    as-written (start .args .n) (start .args .m) (now (start .args .table)) (now (start .args .sheet)) (now (start .args .buffer))
+    (at-checked .check-table .ensures) (at-told .enum-told .given .1) (c .before .before .write-labelled .ensures) in
     (w .number-is, (w .count-is, w .buffer-is))
 
 returns-2 : tie.Need-returns-2
 returns-2 c =
     let at-checked = c .before .before .before .before in
-    let start = at-checked .before .before .before in
-    let table = now (start .args .table) in
-    let buffer = now (start .args .buffer) in
+    let start = at-checked .before .before .before .before in
     let w =
-    as-refused (start .args .n) (start .args .m) table (at-checked .check-table .ensures) (wallPages table) buffer
-    (by-tests (start .args .n) (start .args .m) table (length buffer)) (c .before .before .word .given .1) in
+    as-refused (start .args .n) (start .args .m) (now (start .args .table)) (now (start .args .sheet)) (now (start .args .buffer))
+    (at-checked .check-table .ensures) (c .before .before .word .given .1) in
     rw (c .refused .ensures) (w .number-is, (w .count-is, w .buffer-is))
 
 pub write-pages-spec : {M : Type 1} → statement M
@@ -56,7 +50,7 @@ write-pages-spec =
     (tie.spec
     check-table-requires
     enum-told
-    write-checked-requires
+    write-labelled-requires
     enum-known-word
     refused-requires
     same-length

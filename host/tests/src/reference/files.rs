@@ -33,7 +33,7 @@ pub struct File {
 pub const MOST_SHOWN: u32 = 8;
 
 /// Takes the number that the bytes begin with off them; refusal 8 where they begin with none.
-fn take_number(bytes: &mut &[u8]) -> Result<u32, u32> {
+pub fn take_number(bytes: &mut &[u8]) -> Result<u32, u32> {
     let last = bytes.iter().position(|byte| byte & 0x80 == 0).ok_or(8u32)?;
     let (groups, rest) = bytes.split_at(last + 1);
     let shortest = groups.len() == 1 || groups[last] != 0;

@@ -3,6 +3,7 @@
 
 pub mod boards;
 pub mod files;
+pub mod labels;
 pub mod pages;
 pub mod partitions;
 pub mod products;

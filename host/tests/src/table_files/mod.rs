@@ -180,7 +180,7 @@ pub fn noise(random: &mut Random) -> Vec<u8> {
 }
 
 /// Numbers that are cut off, longer than their shortest form, or too large.
-const BAD_NUMBERS: [&[u8]; 11] = [
+pub const BAD_NUMBERS: [&[u8]; 11] = [
     &[0x80],
     &[0x80, 0x00],
     &[0x80, 0x80, 0x00],

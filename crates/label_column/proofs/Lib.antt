@@ -1,0 +1,3 @@
+pub mod ControlSteps
+pub mod NameSteps
+pub mod ColumnSteps

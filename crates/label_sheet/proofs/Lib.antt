@@ -1,0 +1,2 @@
+pub mod SheetSteps
+pub mod ArraySteps

@@ -1,0 +1,3 @@
+pub mod SheetAnswers
+pub mod LabelArrays
+pub mod ArrayLaws

@@ -1,0 +1,5 @@
+pub mod Labels
+pub mod SheetLaws
+pub mod Columns
+pub mod Splitting
+pub mod LabelLaws

@@ -1,0 +1,1 @@
+// Laws of label sheets, and of wall pages with their labels: statements only.
