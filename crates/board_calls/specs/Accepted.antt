@@ -1,9 +1,12 @@
 -- From the tests of a call on a board to its work, and from the work to what the call promises.
+--   changedBy                         adding and taking as one
 --   taken-table, lowered-table        tables made with what the weight lacks to the modulus
 --   ready, ready-for                  what an accepted change hands to its work, with its own weight and others
 --   room, not-empty, long-enough      a fresh board's tables have 2 ^ n entries
 --   accepted-board, refused-board     number and tables at the end of a call
+--   accepted-change                   the same of a change, whose kind was looked at
 use mathlib.Core.Path.{_≡_, sym, ap, subst, _∙_}
+use mathlib.Core.Bool.{Bool, true, false}
 use mathlib.Core.List.{List}
 use Prim.Native.Nat.{ℕ, _+_, _-_, _%_, _^_, _<_}
 use native.Mathlib.Nat.{zero-add}
@@ -11,7 +14,7 @@ use native.Mathlib.Omega.{arith}
 use lib.Pow.{pow-pos}
 use Rattle.definitions.specs.Sums.{tabulate}
 use Rattle.definitions.specs.Refusals.{after}
-use Rattle.definitions.specs.Boards.{Board, raisedOver, loweredOver, lacking, freshNumber, changeNumber}
+use Rattle.definitions.specs.Boards.{Board, raisedOver, loweredOver, boardAdd, boardTake, lacking, freshNumber, changeNumber}
 use Rattle.residues.specs.Moduli.{Residue}
 use Rattle.residues.specs.declared.Modulus.{Modulus}
 use Rattle.checks.specs.Answers.{IsChecked, accepted, refused, word-kept}
@@ -20,6 +23,11 @@ use Rattle.checks.specs.declared.Checked.the-variants.{Accepted, Refused}
 use Rattle.board_theory.specs.Raised.{lowered-raised}
 use Rattle.board_theory.specs.Accepted.{IsChange, IsRoom, change-accepted, fresh-accepted}
 use Rattle.board_tables.specs.Ready.{BoardReady}
+
+-- the board after a change: taking, or adding
+abbrev pub changedBy : Bool → ℕ → ℕ → ℕ → ℕ → Board → Board
+changedBy true = boardTake
+changedBy false = boardAdd
 
 -- a table made with what the weight c lacks to the modulus
 pub taken-table : {m : ℕ} (c : ℕ) {d : ℕ} (f : ℕ → ℕ → List ℕ) {l : List ℕ} → Residue m (0 + (m - c)) d → l ≡ f m d → l ≡ f m (lacking m c)
@@ -74,3 +82,13 @@ module _ {m k : ℕ} {answer : Checked} (h : IsChecked m k answer) where
   refused-board e new old =
       let kept = word-kept h e in
       (refused h e, (kept (new .weights) (old .weights), (kept (new .exponential) (old .exponential), kept (new .inverse) (old .inverse))))
+
+module _ (n : ℕ) {m : ℕ} (S c : ℕ) (b : Board) {answer : Checked} {modulus : Modulus} (h : IsChecked m (changeNumber n m S c b) answer) (e : answer ≡ Accepted modulus) where
+  pub accepted-change : {taking kind : Bool} → taking ≡ kind → {A E I : List ℕ} → A ≡ changedBy kind n (modulus .value) S c b .weights
+      → E ≡ changedBy kind n (modulus .value) S c b .exponential → I ≡ changedBy kind n (modulus .value) S c b .inverse
+      → (0 ≡ changeNumber n m S c b) × ((A ≡ changedBy taking n m S c b .weights)
+      × ((E ≡ changedBy taking n m S c b .exponential) × (I ≡ changedBy taking n m S c b .inverse)))
+  accepted-change {taking} {kind} t {A} {E} {I} p q r =
+      subst (λ (k : Bool). (0 ≡ changeNumber n m S c b) × ((A ≡ changedBy k n m S c b .weights)
+      × ((E ≡ changedBy k n m S c b .exponential) × (I ≡ changedBy k n m S c b .inverse))))
+      (sym t) (accepted-board h e (λ (j : ℕ). changedBy kind n j S c b) p q r)

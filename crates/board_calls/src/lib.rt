@@ -2,6 +2,7 @@
 ghost use mathlib.Core.Path.{_≡_};
 ghost use Rattle.definitions.specs.Refusals.{after};
 ghost use Rattle.definitions.specs.Boards.{board, addedAt, raisedOver, loweredOver, lacking, freshBoard, freshNumber, changeNumber};
+ghost use Rattle.board_calls.specs.Accepted.{changedBy};
 use board_checks::check_change;
 use board_checks::check_fresh;
 use board_tables::change;
@@ -27,6 +28,37 @@ pub fn board_fresh(n: u32, m: u32, a: &mut [u32], e: &mut [u32], i: &mut [u32]) 
     }
 }
 
+// Takes the weight out at the set, or adds it there. Adding and taking differ in which of the weight and what it lacks to m goes
+// to a and e, and which to i.
+fn change_board(
+    n: u32,
+    m: u32,
+    taking: bool,
+    set: u32,
+    weight: u32,
+    a: &mut [u32],
+    e: &mut [u32],
+    i: &mut [u32],
+) -> u32
+    ensures { λ r. ⌜ r ≡ changeNumber n m set weight (board (now (a .entry)) (now (e .entry)) (now (i .entry))) ⌝ }
+    ensures { λ r. ⌜ now (a .exit) ≡ after r (changedBy taking n m set weight (board (now (a .entry)) (now (e .entry)) (now (i .entry))) .weights) (now (a .entry)) ⌝ }
+    ensures { λ r. ⌜ now (e .exit) ≡ after r (changedBy taking n m set weight (board (now (a .entry)) (now (e .entry)) (now (i .entry))) .exponential) (now (e .entry)) ⌝ }
+    ensures { λ r. ⌜ now (i .exit) ≡ after r (changedBy taking n m set weight (board (now (a .entry)) (now (e .entry)) (now (i .entry))) .inverse) (now (i .entry)) ⌝ }
+{
+    match check_change(n, m, set, weight, a, e, i) {
+        Checked::Accepted(modulus) => {
+            let lacking = modulus.subtract(0, weight);
+            if taking {
+                change(n, modulus, set as usize, lacking, weight, a, e, i);
+            } else {
+                change(n, modulus, set as usize, weight, lacking, a, e, i);
+            }
+            0
+        }
+        Checked::Refused(word) => word,
+    }
+}
+
 // Adds the weight at the set: a grows by it there; and at each set that contains it e grows, and i falls, by it times the old
 // entry of that set without it. Costs O(2^n).
 pub fn board_add(
@@ -43,17 +75,10 @@ pub fn board_add(
     ensures { λ r. ⌜ now (e .exit) ≡ after r (raisedOver n m set weight (now (e .entry))) (now (e .entry)) ⌝ }
     ensures { λ r. ⌜ now (i .exit) ≡ after r (loweredOver n m set weight (now (i .entry))) (now (i .entry)) ⌝ }
 {
-    match check_change(n, m, set, weight, a, e, i) {
-        Checked::Accepted(modulus) => {
-            let lacking = modulus.subtract(0, weight);
-            change(n, modulus, set as usize, weight, lacking, a, e, i);
-            0
-        }
-        Checked::Refused(word) => word,
-    }
+    change_board(n, m, false, set, weight, a, e, i)
 }
 
-// Takes the weight out at the set: what it lacks to m is added, and i grows by the weight. Costs O(2^n).
+// Takes the weight out at the set: what it lacks to m is added, and i grows by the weight times the old entries. Costs O(2^n).
 pub fn board_take(
     n: u32,
     m: u32,
@@ -68,12 +93,5 @@ pub fn board_take(
     ensures { λ r. ⌜ now (e .exit) ≡ after r (raisedOver n m set (lacking m weight) (now (e .entry))) (now (e .entry)) ⌝ }
     ensures { λ r. ⌜ now (i .exit) ≡ after r (raisedOver n m set weight (now (i .entry))) (now (i .entry)) ⌝ }
 {
-    match check_change(n, m, set, weight, a, e, i) {
-        Checked::Accepted(modulus) => {
-            let lacking = modulus.subtract(0, weight);
-            change(n, modulus, set as usize, lacking, weight, a, e, i);
-            0
-        }
-        Checked::Refused(word) => word,
-    }
+    change_board(n, m, true, set, weight, a, e, i)
 }
