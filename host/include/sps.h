@@ -169,8 +169,8 @@ uint32_t sps_board_add(uint32_t n, uint32_t m, uint32_t set, uint32_t weight,
                        uint32_t *e, size_t e_len,
                        uint32_t *i, size_t i_len);
 
-/* Takes the weight out at the set: adds m - weight, so that more may be taken than was added; i[T] grows by the weight times the
- * old i[T without the set].  Refusals and time as for adding. */
+/* Takes the weight out at the set: a and e change as if m - weight, modulo m, were added, so more may be taken than was added;
+ * and i[T] grows by the weight times the old i[T without the set].  Refusals and time as for adding. */
 uint32_t sps_board_take(uint32_t n, uint32_t m, uint32_t set, uint32_t weight,
                         uint32_t *a, size_t a_len,
                         uint32_t *e, size_t e_len,

@@ -78,7 +78,8 @@ pub fn board_add(
     change_board(n, m, false, set, weight, a, e, i)
 }
 
-// Takes the weight out at the set: what it lacks to m is added, and i grows by the weight times the old entries. Costs O(2^n).
+// Takes the weight out at the set: a and e change by what it lacks to m, and i grows, at each set that contains the set, by the
+// weight times the old entry of that set without it. Costs O(2^n).
 pub fn board_take(
     n: u32,
     m: u32,

@@ -1,7 +1,7 @@
 -- When a change of a board, and the making of one, is accepted: the facts that the tests give.
 --   change-accepted, fresh-accepted     from the number 0 to the facts
---   accepted-board, own-number          of three accepted tables only the change's own words are left
-use mathlib.Core.Path.{_≡_, refl}
+--   accepted-board, own-number, same-number     of three accepted tables only the change's own words are left
+use mathlib.Core.Path.{_≡_, refl, sym, _∙_}
 use mathlib.Core.Bool.{not}
 use mathlib.Core.List.{List, [], _∷_}
 use Prim.Native.Nat.{ℕ, _^_, _<_}
@@ -104,6 +104,10 @@ ownNumber n m (takes S c) = firstWord (emptyWord S ∷ codeWord n S ∷ weightWo
 pub own-number : (n m : ℕ) (b : Board) (x : Change) → IsBoard n m b → numberOn n m b x ≡ ownNumber n m x
 own-number n m b (adds S c) h = set-and-weight n m S c b h
 own-number n m b (takes S c) h = set-and-weight n m S c b h
+
+-- so accepted boards give a change the same number
+pub same-number : (n m : ℕ) (b c : Board) (x : Change) → IsBoard n m b → IsBoard n m c → numberOn n m b x ≡ numberOn n m c x
+same-number n m b c x h k = own-number n m b x h ∙ sym (own-number n m c x k)
 
 -- ---- a fresh board
 

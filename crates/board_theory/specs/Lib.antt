@@ -4,3 +4,4 @@ pub mod Accepted
 pub mod Moves
 pub mod Runs
 pub mod Orders
+pub mod Books

@@ -8,20 +8,16 @@ use Prim.Native.Nat.{ℕ, zero, suc, _+_, _<_}
 use Rattle.definitions.specs.Refusals.{AcceptedTable}
 use Rattle.definitions.specs.Boards.{Board, boardAdd, boardTake, lacking, changeNumber, Change, adds, takes, numberOn, next, run}
 use Rattle.board_theory.specs.Raised.{added-comm, raised-comm, added-twice, raised-twice, added-nothing, raised-nothing, raised-lowered}
-use Rattle.board_theory.specs.Accepted.{IsBoard, accepted-board, change-accepted, own-number}
+use Rattle.board_theory.specs.Accepted.{IsBoard, accepted-board, change-accepted, same-number}
 use Rattle.board_theory.specs.Moves.{table-by-table, moved, place, amount, opposite, move, IsMove, is-move}
 use Rattle.board_theory.specs.Runs.{next-moved, next-refused, next-board}
 
 module _ (n m : ℕ) where
-  -- accepted boards give a change the same number
-  number-kept : (b c : Board) (x : Change) → IsBoard n m b → IsBoard n m c → numberOn n m b x ≡ numberOn n m c x
-  number-kept b c x h k = own-number n m b x h ∙ sym (own-number n m c x k)
-
   -- two changes that b accepts: the first does not refuse the second
   next-two : (b : Board) (x y : Change) → IsBoard n m b → numberOn n m b x ≡ 0 → numberOn n m b y ≡ 0
       → next n m (next n m b x) y ≡ move n m y (move n m x b)
   next-two b x y h e f =
-      next-moved n m (next n m b x) y (number-kept (next n m b x) b y (next-board n m b x h) h ∙ f) ∙ ap (move n m y) (next-moved n m b x e)
+      next-moved n m (next n m b x) y (same-number n m (next n m b x) b y (next-board n m b x h) h ∙ f) ∙ ap (move n m y) (next-moved n m b x e)
 
   -- ---- undone
 
@@ -62,7 +58,7 @@ module _ (n m : ℕ) where
   next-comm : (b : Board) (x y : Change) → IsBoard n m b → next n m (next n m b x) y ≡ next n m (next n m b y) x
   next-comm b x y h = by (numberOn n m b x) (numberOn n m b y) refl refl where
     later : (x y : Change) {k : ℕ} → numberOn n m b y ≡ k → numberOn n m (next n m b x) y ≡ k
-    later x y e = number-kept (next n m b x) b y (next-board n m b x h) h ∙ e
+    later x y e = same-number n m (next n m b x) b y (next-board n m b x h) h ∙ e
 
     by : (j k : ℕ) → numberOn n m b x ≡ j → numberOn n m b y ≡ k → next n m (next n m b x) y ≡ next n m (next n m b y) x
     by zero zero e f = next-two b x y h e f ∙ move-comm b x y e f ∙ sym (next-two b y x h f e)

@@ -1,7 +1,8 @@
 -- One step of a board. What is added at S to a table raises its exponential over S, and raising over S is a product.
 --   exponential-raised              exp (A with c added at S) = exp A, raised by c over S
 --   exponential-fresh               the exponential of zeros
---   raised-product, raised-comm     raising over S is the product with 1 + c x^S, so two raisings may change places
+--   raised-product, raised-factor, raised-comm     raising over S is the product with 1 + c x^S, so it may be done to a factor, and
+--                                   two raisings may change places
 --   added-at, added-first           what is added at S: modulo m, and at the empty set
 --   added-comm                      two additions may change places too
 --   raised-twice, added-twice       two at one set are one with both weights
@@ -128,6 +129,11 @@ module _ (n m : ℕ) where
           (λ R k. sym (at-mod n m (compositionSum n allOnes (at A)) R k))
           (λ R k. ap (λ (x : ℕ). x % m) (single-exponential n S c some R k) ∙ sym (at-mod n m oneAnd R k)) T h)
           ∙ sym (raised-product code (exponentialTable n m A))
+
+  pub raised-factor : (S c : ℕ) → S < 2 ^ n → (D E : List ℕ) → raisedOver n m S c (subsetTable n m D E) ≡ subsetTable n m D (raisedOver n m S c E)
+  raised-factor S c code D E =
+      raised-product S c code (subsetTable n m D E) ∙ product-assoc n m D E (residues n m (oneAnd S c))
+      ∙ ap (subsetTable n m D) (sym (raised-product S c code E))
 
   pub raised-comm : (S c R d : ℕ) → S < 2 ^ n → R < 2 ^ n → (E : List ℕ) → raisedOver n m R d (raisedOver n m S c E) ≡ raisedOver n m S c (raisedOver n m R d E)
   raised-comm S c R d s r E =

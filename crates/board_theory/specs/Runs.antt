@@ -4,6 +4,7 @@
 --   run-product                     and the product of E and I, on any three accepted tables
 --   run-weight                      the weight at a set after a list of changes
 --   board-law, fresh-numbers        the law, for every list; none is refused but for its set or its weight
+--   law-determines                  no other board meets the law
 --   run-more, numbers-more, numbers-length     a list that grows at its end
 use mathlib.Core.Path.{_≡_, refl, sym, ap, ap₂, subst, _∙_}
 use mathlib.Core.Bool.{Bool, true, false, cond}
@@ -20,16 +21,16 @@ use Rattle.definitions.specs.Partitions.{exponentialTable, unit, IsInverse}
 use Rattle.definitions.specs.Refusals.{valueAfter}
 use Rattle.definitions.specs.Boards.{Board, addedAt, raisedOver, freshBoard, lacking, boardAfter}
 use Rattle.definitions.specs.Boards.{Change, adds, takes, numberOn, changed, next, run, runNumbers, addsAt, takesAt, total, BoardLaw}
-use Rattle.theory.specs.Lists.{at-tabulate, tabulate-ext}
+use Rattle.theory.specs.Lists.{at-tabulate, tabulate-ext, tabulate-self}
 use Rattle.theory.specs.Entries.{at-below}
 use Rattle.theory.specs.Remainders.{mod-add, mod-sub}
 use Rattle.theory.specs.Tables.{product-unit}
-use Rattle.theory.specs.Inverse.{unit-table}
-use Rattle.checks.specs.Accepted.{InRange, IsTable, table-accepts}
+use Rattle.theory.specs.Inverse.{unit-table, inverse-unique}
+use Rattle.checks.specs.Accepted.{InRange, IsTable, table-accepts, table-accepted}
 use Rattle.laws_theory.specs.Accepting.{residues-table}
 use Rattle.board_theory.specs.Raised.{exponential-raised, exponential-fresh, product-kept, added-at, added-first, lacking-back}
 use Rattle.board_theory.specs.Accepted.{IsBoard, change-accepted, ownNumber, own-number}
-use Rattle.board_theory.specs.Moves.{moved, place, amount, opposite, move, changed-is, IsMove, is-move}
+use Rattle.board_theory.specs.Moves.{table-by-table, moved, place, amount, opposite, move, changed-is, IsMove, is-move}
 
 module _ (n m : ℕ) where
   -- ---- one change
@@ -200,6 +201,22 @@ module _ (n m : ℕ) where
               sym (mod-eq-of-lt (s .board .weights .below S)) ∙ sym (mod-sub m (omega (arith, r .lowest)) W t)
               ∙ ap (λ (k : ℕ). (k + (m - t % m)) % m) same ∙ mod-add-mod a m (m - t % m);
         }
+
+    -- only this board meets it
+    pub law-determines : (xs : List Change) (b c : Board) → BoardLaw n m xs b → BoardLaw n m xs c → b ≡ c
+    law-determines xs b c h k = table-by-table weights exponential inverse where
+      weights : b .weights ≡ c .weights
+      weights =
+          sym (tabulate-self (2 ^ n) (b .weights) (table-accepted n m (b .weights) (h .weights-accepted) .1 .size))
+          ∙ tabulate-ext (2 ^ n) _ _ (λ S s. h .weight-is S s ∙ sym (k .weight-is S s))
+          ∙ tabulate-self (2 ^ n) (c .weights) (table-accepted n m (c .weights) (k .weights-accepted) .1 .size)
+
+      exponential : b .exponential ≡ c .exponential
+      exponential = h .exponential-is ∙ ap (exponentialTable n m) weights ∙ sym (k .exponential-is)
+
+      inverse : b .inverse ≡ c .inverse
+      inverse = inverse-unique n m (c .exponential) (b .inverse) (c .inverse)
+          (subst (λ (E : List ℕ). IsInverse n m E (b .inverse)) exponential (h .inverse-is)) (k .inverse-is)
 
     -- and the number of each change is its own
     pub fresh-numbers : (xs : List Change) → runNumbers n m (freshBoard n) xs ≡ map (ownNumber n m) xs

@@ -7,7 +7,7 @@ use Rattle.definitions.specs.Sets.{inside}
 use Rattle.definitions.specs.Products.{residues}
 use Rattle.definitions.specs.Partitions.{allBelow}
 use Rattle.definitions.specs.Worked.{P, Q, R}
-use Rattle.definitions.specs.Boards.{Board, board, Change, adds, takes, addedAt, raisedOver, loweredOver, freshBoard, freshNumber, changeNumber, numberOn, next, total, addsAt, takesAt}
+use Rattle.definitions.specs.Boards.{Board, board, Change, adds, takes, addedAt, raisedOver, loweredOver, freshBoard, freshNumber, changeNumber, numberOn, next, run, runNumbers, total, addsAt, takesAt}
 
 -- a change, its number, and the tables that it leaves
 pub data Step : Type 0 where
@@ -47,16 +47,47 @@ pub worked-any : Follow 2 101 (board P Q downward) (step (adds 1 10) 0 (1 ∷ 12
 unfolding next changeNumber addedAt raisedOver loweredOver residues tabulate inside allBelow
 worked-any = ((refl, (refl, tt)), (refl, (refl, tt)))
 
+-- three controls, a modulus that is not prime, entries m - 1, first entries that have no inverse
+abbrev pub any : Board
+any = board (5 ∷ 5 ∷ 5 ∷ 5 ∷ 5 ∷ 5 ∷ 5 ∷ 5 ∷ []) (2 ∷ 1 ∷ 3 ∷ 4 ∷ 5 ∷ 0 ∷ 1 ∷ 2 ∷ []) (0 ∷ 5 ∷ 4 ∷ 3 ∷ 2 ∷ 1 ∷ 0 ∷ 5 ∷ [])
+
+pub worked-three :
+    Follow 3 6 any
+    (step (adds 3 5) 0 (5 ∷ 5 ∷ 5 ∷ 4 ∷ 5 ∷ 5 ∷ 5 ∷ 5 ∷ []) (2 ∷ 1 ∷ 3 ∷ 2 ∷ 5 ∷ 0 ∷ 1 ∷ 3 ∷ []) (0 ∷ 5 ∷ 4 ∷ 3 ∷ 2 ∷ 1 ∷ 0 ∷ 1 ∷ []) ∷ [])
+    × Follow 3 6 any
+    (step (takes 3 2) 0 (5 ∷ 5 ∷ 5 ∷ 3 ∷ 5 ∷ 5 ∷ 5 ∷ 5 ∷ []) (2 ∷ 1 ∷ 3 ∷ 0 ∷ 5 ∷ 0 ∷ 1 ∷ 4 ∷ []) (0 ∷ 5 ∷ 4 ∷ 3 ∷ 2 ∷ 1 ∷ 0 ∷ 3 ∷ []) ∷ [])
+unfolding next changeNumber addedAt raisedOver loweredOver residues tabulate inside allBelow
+worked-three = ((refl, (refl, tt)), (refl, (refl, tt)))
+
 -- with no control every set is 11 or 12
 pub worked-none : Follow 0 5 (freshBoard 0) (step (adds 0 1) 11 (0 ∷ []) (1 ∷ []) (1 ∷ []) ∷ step (takes 1 1) 12 (0 ∷ []) (1 ∷ []) (1 ∷ []) ∷ [])
 unfolding next changeNumber residues tabulate allBelow
 worked-none = (refl, (refl, (refl, (refl, tt))))
+
+-- a list of changes, one of them refused
+abbrev pub listed : List Change
+listed = adds 1 2 ∷ adds 0 1 ∷ adds 2 3 ∷ adds 3 4 ∷ []
+
+pub worked-run : (run 2 101 (freshBoard 2) listed ≡ board R (1 ∷ 2 ∷ 3 ∷ 10 ∷ []) (1 ∷ 99 ∷ 98 ∷ 2 ∷ []))
+    × (runNumbers 2 101 (freshBoard 2) listed ≡ 0 ∷ 11 ∷ 0 ∷ 0 ∷ [])
+unfolding run runNumbers next changeNumber addedAt raisedOver loweredOver residues tabulate inside allBelow
+worked-run = (refl, refl)
 
 -- a refused weight does not count: the 101
 pub worked-weights : (total 2 101 (addsAt 2) (board P Q downward) (adds 2 7 ∷ adds 2 101 ∷ adds 2 8 ∷ []) ≡ 15)
     × (total 2 101 (takesAt 2) (board P Q downward) (takes 2 8 ∷ takes 2 101 ∷ []) ≡ 8)
 unfolding total next changeNumber addedAt raisedOver loweredOver residues tabulate inside allBelow
 worked-weights = (refl, refl)
+
+-- what counts at {1} and at {0, 1}: neither what is at other sets, nor the other kind
+abbrev pub mixed : List Change
+mixed = adds 2 7 ∷ takes 2 8 ∷ adds 1 20 ∷ takes 1 30 ∷ adds 3 40 ∷ takes 3 50 ∷ adds 2 9 ∷ takes 2 1 ∷ []
+
+pub worked-mixed : (total 2 101 (addsAt 2) (freshBoard 2) mixed ≡ 16)
+    × ((total 2 101 (takesAt 2) (freshBoard 2) mixed ≡ 9)
+    × ((total 2 101 (addsAt 3) (freshBoard 2) mixed ≡ 40) × (total 2 101 (takesAt 3) (freshBoard 2) mixed ≡ 50)))
+unfolding total next changeNumber addedAt raisedOver loweredOver residues tabulate inside allBelow
+worked-mixed = (refl, (refl, (refl, refl)))
 
 -- a fresh board takes any entries; refused are 17 controls, modulus 1, a short A, a short E, a short I
 abbrev pub nines : List ℕ
@@ -65,7 +96,7 @@ nines = 9 ∷ 9 ∷ 9 ∷ 9 ∷ []
 pub worked-fresh :
     freshNumber 2 7 (board nines nines nines)
     ∷ freshNumber 17 1 (board [] nines nines)
-    ∷ freshNumber 2 1 (board [] nines nines)
+    ∷ freshNumber 2 1 (board [] [] [])
     ∷ freshNumber 2 7 (board [] nines nines)
     ∷ freshNumber 2 7 (board nines [] nines)
     ∷ freshNumber 2 7 (board nines nines [])
@@ -84,6 +115,7 @@ pub worked-refusals :
     ∷ changeNumber 2 101 0 101 (board [] wrong wrong)
     ∷ changeNumber 2 101 0 101 (board wrong [] wrong)
     ∷ changeNumber 2 101 0 101 (board wrong wrong [])
+    ∷ changeNumber 2 101 4 101 (board wrong wrong [])
     ∷ changeNumber 2 101 0 101 (board wrong wrong wrong)
     ∷ changeNumber 2 101 4 101 (board wrong wrong wrong)
     ∷ changeNumber 2 101 3 100 (board wrong P P)
@@ -92,6 +124,11 @@ pub worked-refusals :
     ∷ changeNumber 2 101 3 101 (board P P P)
     ∷ changeNumber 2 101 3 100 (board P P P)
     ∷ []
-    ≡ 1 ∷ 2 ∷ 3 ∷ 3 ∷ 3 ∷ 11 ∷ 12 ∷ 5 ∷ 5 ∷ 5 ∷ 5 ∷ 0 ∷ []
+    ≡ 1 ∷ 2 ∷ 3 ∷ 3 ∷ 3 ∷ 3 ∷ 11 ∷ 12 ∷ 5 ∷ 5 ∷ 5 ∷ 5 ∷ 0 ∷ []
 unfolding changeNumber allBelow
 worked-refusals = refl
+
+-- on a board that is not accepted nothing counts
+pub worked-nothing : total 2 101 (addsAt 2) (board wrong P P) (adds 2 7 ∷ adds 2 8 ∷ []) ≡ 0
+unfolding total next changeNumber addedAt raisedOver loweredOver residues tabulate inside allBelow
+worked-nothing = refl
