@@ -9,7 +9,7 @@
 --   raised-nothing, added-nothing   a multiple of m changes no table of residues
 --   lowered-raised, raised-lowered  lowering by c is raising by what c lacks to m, and the other way round
 --   product-kept                    E · I, where E is raised by c and I by what c lacks to m
---   lacking-back, lacking-whole, with-lacking, lacking-twice      c, and what c lacks to m
+--   lacking-back, lacking-whole, with-lacking      c, and what c lacks to m
 use mathlib.Core.Path.{_≡_, refl, sym, ap, ap₂, _∙_}
 use mathlib.Core.Bool.{Bool, true, false, cond}
 use mathlib.Core.List.{List}
@@ -47,10 +47,10 @@ lacking-whole m c h = ap (λ (k : ℕ). (k + c) % m) (sym (zero-add (lacking m c
 pub with-lacking : (m c : ℕ) → c < m → (c + lacking m c) % m ≡ 0
 with-lacking m c h = ap (λ (k : ℕ). k % m) (add-comm c (lacking m c)) ∙ lacking-whole m c h
 
-pub lacking-below : (m c : ℕ) → c < m → lacking m c < m
+lacking-below : (m c : ℕ) → c < m → lacking m c < m
 lacking-below m c h = mod-lt (m - c) (omega arith)
 
-pub lacking-twice : (m c : ℕ) → c < m → lacking m (lacking m c) ≡ c
+lacking-twice : (m c : ℕ) → c < m → lacking m (lacking m c) ≡ c
 lacking-twice m c h =
     let d : ℕ = lacking m c in
     let k : d < m = lacking-below m c h in

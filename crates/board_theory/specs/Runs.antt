@@ -1,5 +1,5 @@
 -- Lists of changes of a fresh board.
---   next-accepted, next-moved, next-refused, next-keeps    one change
+--   next-moved, next-refused        one change
 --   next-board, next-sound          what every change keeps: tables of residues, and E is the exponential of A (Sound)
 --   run-product                     and the product of E and I, on any three accepted tables
 --   run-weight                      the weight at a set after a list of changes
@@ -35,7 +35,7 @@ use Rattle.board_theory.specs.Moves.{table-by-table, moved, place, amoun
 module _ (n m : ℕ) where
   -- ---- one change
 
-  pub next-accepted : (b : Board) (x : Change) → numberOn n m b x ≡ 0 → next n m b x ≡ changed n m b x
+  next-accepted : (b : Board) (x : Change) → numberOn n m b x ≡ 0 → next n m b x ≡ changed n m b x
   unfolding next
   next-accepted b x e = ap (λ (k : ℕ). boardAfter k (changed n m b x) b) e
 
