@@ -125,19 +125,22 @@ static void free_board(struct board b) {
     free(b.a);
 }
 
-/* Puts exercises on a fresh board: all, or those that use a single control. */
-static uint32_t put_exercises(uint32_t n, uint32_t m, int single_controls, struct board b) {
+enum book { ALL_EXERCISES, SINGLE_CONTROLS };
+
+/* Puts the exercises of a book on a fresh board: all, or those that use a single control. */
+static uint32_t put_exercises(uint32_t n, uint32_t m, enum book book, struct board b) {
     uint32_t number = sps_board_fresh(n, m, b.a, b.length, b.e, b.length, b.i, b.length);
     for (uint32_t set = 1; set < b.length && number == SPS_ACCEPTED; set++) {
-        if (table[set] == 0 || (single_controls && (set & (set - 1)) != 0)) continue;
+        if (table[set] == 0 || (book == SINGLE_CONTROLS && (set & (set - 1)) != 0)) continue;
         number = sps_board_add(n, m, set, table[set], b.a, b.length, b.e, b.length, b.i, b.length);
     }
     return number;
 }
 
-static void show_number(uint32_t number, uint32_t sessions) {
+/* The whole panel's entry, or the word of the refusal. */
+static void show_outcome(uint32_t number, const uint32_t *counts, size_t length) {
     if (number == SPS_ACCEPTED) {
-        printf(" %lu\n", (unsigned long)sessions);
+        printf(" %lu\n", (unsigned long)counts[length - 1]);
     } else {
         printf(" refused %lu\n", (unsigned long)number);
     }
@@ -146,14 +149,14 @@ static void show_number(uint32_t number, uint32_t sessions) {
 /* Puts all exercises on a board, and takes one off it again: of the first set that has any. */
 static void withdraw_exercise(uint32_t n, uint32_t m) {
     struct board b = new_board(n);
-    uint32_t number = put_exercises(n, m, 0, b), first = 1;
+    uint32_t number = put_exercises(n, m, ALL_EXERCISES, b), first = 1;
     while (first < b.length && table[first] == 0) first++;
     if (first < b.length) {
         if (number == SPS_ACCEPTED) number = sps_board_take(n, m, first, 1, b.a, b.length, b.e, b.length, b.i, b.length);
         printf("sessions without one exercise for a set, modulo %lu:\n", (unsigned long)m);
         printf("  ");
         show_set(first);
-        show_number(number, b.e[b.length - 1]);
+        show_outcome(number, b.e, b.length);
     }
     free_board(b);
 }
@@ -166,13 +169,13 @@ static void withdraw_book(uint32_t n, uint32_t m) {
     uint32_t *pad = malloc(pad_length * sizeof *pad);
     if (result == NULL || pad == NULL) exit(EXIT_FAILURE);
 
-    uint32_t number = put_exercises(n, m, 0, joint);
-    if (number == SPS_ACCEPTED) number = put_exercises(n, m, 1, book);
+    uint32_t number = put_exercises(n, m, ALL_EXERCISES, joint);
+    if (number == SPS_ACCEPTED) number = put_exercises(n, m, SINGLE_CONTROLS, book);
     if (number == SPS_ACCEPTED) {
         number = (uint32_t)sps_subset_product(n, m, joint.e, length, book.i, length, result, length, pad, pad_length);
     }
     printf("sessions without exercises of a single control, modulo %lu:\n ", (unsigned long)m);
-    show_number(number, result[length - 1]);
+    show_outcome(number, result, length);
     free(pad);
     free(result);
     free_board(book);

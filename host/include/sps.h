@@ -151,8 +151,8 @@ uint32_t sps_projection(uint32_t n, uint32_t m,
  * A board is three tables that the host keeps: a, the exercises there are for each set; e, their exponential; and i, the
  * inverse of e.  All are kept up to date as exercises come and go.  After a fresh board and any changes of it under the same n
  * and m, with nobody else writing to a, e or i, a[S] is the weight added at S less the weight taken there, over the accepted
- * changes; e is the exponential of a, and i is the inverse of e: what sps_exponential gives for a, and sps_inverse for e.  The
- * subset product with i takes all exercises of the board out of a joint count. */
+ * changes, modulo m; e is the exponential of a, and i is the inverse of e: what sps_exponential gives for a, and sps_inverse for
+ * e.  The subset product of a joint count and i is the count without the exercises of the board. */
 
 /* A fresh board: a all 0; e and i equal to 1 at the empty set and 0 elsewhere.  What the tables held does not matter.  Refusals
  * 1, 2, 3.  Time 2^n. */
@@ -170,7 +170,8 @@ uint32_t sps_board_add(uint32_t n, uint32_t m, uint32_t set, uint32_t weight,
                        uint32_t *i, size_t i_len);
 
 /* Takes the weight out at the set: a and e change as if m - weight, modulo m, were added, so more may be taken than was added;
- * and i[T] grows by the weight times the old i[T without the set].  Refusals and time as for adding. */
+ * and for each T that contains the set i[T] grows by the weight times the old i[T without the set].  Refusals and time as for
+ * adding. */
 uint32_t sps_board_take(uint32_t n, uint32_t m, uint32_t set, uint32_t weight,
                         uint32_t *a, size_t a_len,
                         uint32_t *e, size_t e_len,

@@ -1,10 +1,10 @@
 -- From the tests of a call on a board to its work, and from the work to what the call promises.
 --   changedBy                         adding and taking as one
---   taken-table, lowered-table        tables made with what the weight lacks to the modulus
+--   lacking-table, lowered-table      tables made with what the weight lacks to the modulus
 --   ready, ready-for                  what an accepted change hands to its work, with its own weight and others
 --   room, not-empty, long-enough      a fresh board's tables have 2 ^ n entries
 --   accepted-board, refused-board     number and tables at the end of a call
---   accepted-change                   the same of a change, whose kind was looked at
+--   accepted-change                   the same of a change, once it is known whether weight is added or taken
 use mathlib.Core.Path.{_≡_, sym, ap, subst, _∙_}
 use mathlib.Core.Bool.{Bool, true, false}
 use mathlib.Core.List.{List}
@@ -30,13 +30,13 @@ changedBy true = boardTake
 changedBy false = boardAdd
 
 -- a table made with what the weight c lacks to the modulus
-pub taken-table : {m : ℕ} (c : ℕ) {d : ℕ} (f : ℕ → ℕ → List ℕ) {l : List ℕ} → Residue m (0 + (m - c)) d → l ≡ f m d → l ≡ f m (lacking m c)
-taken-table {m} c f r p = p ∙ ap (f m) (r .same ∙ ap (λ (k : ℕ). k % m) (zero-add (m - c)))
+pub lacking-table : {m : ℕ} (c : ℕ) {d : ℕ} (f : ℕ → ℕ → List ℕ) {l : List ℕ} → Residue m (0 + (m - c)) d → l ≡ f m d → l ≡ f m (lacking m c)
+lacking-table {m} c f r p = p ∙ ap (f m) (r .same ∙ ap (λ (k : ℕ). k % m) (zero-add (m - c)))
 
 -- raised by that, a table is lowered by c
 pub lowered-table : (n : ℕ) {m : ℕ} (S c : ℕ) {d : ℕ} (I : List ℕ) {l : List ℕ} → c < m → Residue m (0 + (m - c)) d
     → l ≡ raisedOver n m S d I → l ≡ loweredOver n m S c I
-lowered-table n {m} S c I h r p = taken-table c (λ (k d : ℕ). raisedOver n k S d I) r p ∙ sym (lowered-raised n m S c h I)
+lowered-table n {m} S c I h r p = lacking-table c (λ (k d : ℕ). raisedOver n k S d I) r p ∙ sym (lowered-raised n m S c h I)
 
 -- ---- the work
 

@@ -28,8 +28,8 @@ pub fn board_fresh(n: u32, m: u32, a: &mut [u32], e: &mut [u32], i: &mut [u32]) 
     }
 }
 
-// Takes the weight out at the set, or adds it there. Adding and taking differ in which of the weight and what it lacks to m goes
-// to a and e, and which to i.
+// Takes the weight out at the set, or adds it there. To take it, a and e get what it lacks to m, and i gets the weight; to add it,
+// the other way round.
 fn change_board(
     n: u32,
     m: u32,
@@ -59,8 +59,8 @@ fn change_board(
     }
 }
 
-// Adds the weight at the set: a grows by it there; and at each set that contains it e grows, and i falls, by it times the old
-// entry of that set without it. Costs O(2^n).
+// Adds the weight at the set: a grows by it there; and at each set that contains this one e grows, and i falls, by the weight times
+// the old entry of that set without this one. Costs O(2^n).
 pub fn board_add(
     n: u32,
     m: u32,
@@ -78,8 +78,8 @@ pub fn board_add(
     change_board(n, m, false, set, weight, a, e, i)
 }
 
-// Takes the weight out at the set: a and e change by what it lacks to m, and i grows, at each set that contains the set, by the
-// weight times the old entry of that set without it. Costs O(2^n).
+// Takes the weight out at the set: a and e get what it lacks to m, and i grows, at each set that contains this one, by the weight
+// times the old entry of that set without this one. Costs O(2^n).
 pub fn board_take(
     n: u32,
     m: u32,

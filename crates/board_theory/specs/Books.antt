@@ -1,4 +1,4 @@
--- A book of exercises, put on any board and, on a board of its own, divided out again.
+-- A book of exercises that is put on any board and also on one of its own, by which it is divided out again.
 --   book-taken-out     the product with the book's I is what E was without the book
 use mathlib.Core.Path.{_≡_, refl, sym, ap, _∙_}
 use mathlib.Core.List.{List, [], _∷_}
@@ -12,7 +12,7 @@ use Rattle.board_theory.specs.Moves.{place, amount, is-move}
 use Rattle.board_theory.specs.Runs.{next-moved, next-refused, next-board, fresh-sound, board-law}
 
 module _ (n m : ℕ) where
-  -- the same change of two boards, of which one has D as a factor more
+  -- the same change of two boards, where the first E is D times the second
   module _ (D : List ℕ) (b c : Board) (h : IsBoard n m b) (k : IsBoard n m c) (p : b .exponential ≡ subsetTable n m D (c .exponential)) where
     next-factor : (x : Change) → next n m b x .exponential ≡ subsetTable n m D (next n m c x .exponential)
     next-factor x = by (numberOn n m b x) refl where

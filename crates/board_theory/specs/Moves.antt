@@ -1,7 +1,7 @@
 -- An accepted change, by its set and two weights: A and E go by one of them, I by the other, and together they are 0 modulo m.
---   table-by-table           boards with equal tables
---   moved, move, changed-is  the board that an accepted change makes
---   IsMove, is-move          its set and its two weights
+--   table-by-table                  boards with equal tables
+--   moved, move, changed-is         the board that an accepted change makes
+--   place, amount, opposite, IsMove, is-move     its set and its two weights
 use mathlib.Core.Path.{_≡_, refl}
 use mathlib.Core.List.{List}
 use Prim.Native.Nat.{ℕ, _+_, _%_, _^_, _<_}

@@ -1,4 +1,5 @@
--- One step of a board. What is added at S to a table raises its exponential over S, and raising over S is a product.
+-- One step of a board. What is added at S to a table raises its exponential over S; raising over S is a product, and lowering by c is
+-- raising by what c lacks to m.
 --   exponential-raised              exp (A with c added at S) = exp A, raised by c over S
 --   exponential-fresh               the exponential of zeros
 --   raised-product, raised-factor, raised-comm     raising over S is the product with 1 + c x^S, so it may be done to a factor, and
@@ -8,7 +9,7 @@
 --   raised-twice, added-twice       two at one set are one with both weights
 --   raised-nothing, added-nothing   a multiple of m changes no table of residues
 --   lowered-raised, raised-lowered  lowering by c is raising by what c lacks to m, and the other way round
---   product-kept                    E · I, where E is raised by c and I by what c lacks to m
+--   product-kept                    E · I stays if E is raised by c and I by d, which together are 0 modulo m
 --   lacking-back, lacking-whole, with-lacking      c, and what c lacks to m
 use mathlib.Core.Path.{_≡_, refl, sym, ap, ap₂, _∙_}
 use mathlib.Core.Bool.{Bool, true, false, cond}
@@ -190,7 +191,7 @@ module _ (n m : ℕ) where
     d : ℕ
     d = lacking m c
 
-    -- with c y both are 0
+    -- both give 0 when c y is added
     opposite : (y : ℕ) → (m - c * y % m) % m ≡ d * y % m
     opposite y =
         let front : c * y + (m - c * y % m) ≡ m - c * y % m + c * y = omega arith in

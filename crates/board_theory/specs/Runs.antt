@@ -1,7 +1,7 @@
 -- Lists of changes of a fresh board.
 --   next-moved, next-refused        one change
---   next-board, next-sound          what every change keeps: tables of residues, and E is the exponential of A (Sound)
---   run-product                     and the product of E and I, on any three accepted tables
+--   next-board, Sound, fresh-sound  what every change keeps: tables of residues, and E is the exponential of A
+--   product, run-product            and the product of E and I, on any three accepted tables
 --   run-weight                      the weight at a set after a list of changes
 --   board-law, fresh-numbers        the law, for every list; none is refused but for its set or its weight
 --   law-determines                  no other board meets the law
@@ -78,7 +78,7 @@ module _ (n m : ℕ) where
     is = exponential-raised n m S c (k .some) (k .code) (b .weights) ∙ ap (raisedOver n m S c) (h .is);
   }
 
-  pub next-sound : (b : Board) (x : Change) → Sound b → Sound (next n m b x)
+  next-sound : (b : Board) (x : Change) → Sound b → Sound (next n m b x)
   next-sound b x h = next-keeps Sound b x h (λ e. moved-sound (place n m x) (amount n m x) (opposite n m x) b (is-move n m b x e) h)
 
   -- ---- the product of E and I
@@ -144,7 +144,7 @@ module _ (n m : ℕ) where
 
   -- ---- lists
 
-  pub run-sound : (b : Board) (xs : List Change) → Sound b → Sound (run n m b xs)
+  run-sound : (b : Board) (xs : List Change) → Sound b → Sound (run n m b xs)
   unfolding run
   run-sound b [] h = h
   run-sound b (x ∷ xs) h = run-sound (next n m b x) xs (next-sound b x h)

@@ -7,7 +7,8 @@ use Rattle.definitions.specs.Sets.{inside}
 use Rattle.definitions.specs.Products.{residues}
 use Rattle.definitions.specs.Partitions.{allBelow}
 use Rattle.definitions.specs.Worked.{P, Q, R}
-use Rattle.definitions.specs.Boards.{Board, board, Change, adds, takes, addedAt, raisedOver, loweredOver, freshBoard, freshNumber, changeNumber, numberOn, next, run, runNumbers, total, addsAt, takesAt}
+use Rattle.definitions.specs.Boards.{Board, board, addedAt, raisedOver, loweredOver, freshBoard, freshNumber, changeNumber}
+use Rattle.definitions.specs.Boards.{Change, adds, takes, numberOn, next, run, runNumbers, total, addsAt, takesAt}
 
 -- a change, its number, and the tables that it leaves
 pub data Step : Type 0 where
@@ -38,7 +39,7 @@ pub worked-steps : Follow 2 101 (freshBoard 2) steps
 unfolding next changeNumber addedAt raisedOver loweredOver residues tabulate inside allBelow
 worked-steps = (refl, (refl, (refl, (refl, (refl, (refl, (refl, (refl, (refl, (refl, (refl, (refl, (refl, (refl, (refl, (refl, (refl, (refl, tt))))))))))))))))))
 
--- any three accepted tables
+-- any three accepted tables: 01's P and Q, and this one as I
 abbrev pub downward : List ℕ
 downward = 9 ∷ 8 ∷ 7 ∷ 6 ∷ []
 
@@ -47,7 +48,7 @@ pub worked-any : Follow 2 101 (board P Q downward) (step (adds 1 10) 0 (1 ∷ 12
 unfolding next changeNumber addedAt raisedOver loweredOver residues tabulate inside allBelow
 worked-any = ((refl, (refl, tt)), (refl, (refl, tt)))
 
--- three controls, a modulus that is not prime, entries m - 1, first entries that have no inverse
+-- three controls, a modulus that is not prime, entries m - 1, first entries of E and I that have no inverse
 abbrev pub any : Board
 any = board (5 ∷ 5 ∷ 5 ∷ 5 ∷ 5 ∷ 5 ∷ 5 ∷ 5 ∷ []) (2 ∷ 1 ∷ 3 ∷ 4 ∷ 5 ∷ 0 ∷ 1 ∷ 2 ∷ []) (0 ∷ 5 ∷ 4 ∷ 3 ∷ 2 ∷ 1 ∷ 0 ∷ 5 ∷ [])
 
@@ -105,7 +106,7 @@ pub worked-fresh :
 unfolding freshNumber
 worked-fresh = refl
 
--- a change with many faults, and then fewer; 12 in the place of 11; the four faults of word 5, each alone; none
+-- a change with many faults, and then fewer; 3 ahead of 12; 12 in the place of 11; the four faults of word 5, each alone; none
 abbrev pub wrong : List ℕ
 wrong = 0 ∷ 0 ∷ 0 ∷ 101 ∷ []
 

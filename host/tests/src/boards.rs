@@ -83,16 +83,16 @@ fn follow(m: u32, mut board: Board, steps: &[(Change, u32, [[u32; 4]; 3])]) {
 /// Weight 2 at {0}, 3 at {1} and 4 at {0, 1}; then more is taken at {0} than was added, and so on. Then any three tables.
 #[test]
 fn worked_by_hand() {
-    let refused = [[0, 98, 3, 4], [1, 98, 3, 96], [1, 3, 98, 88]];
+    let overdrawn = [[0, 98, 3, 4], [1, 98, 3, 96], [1, 3, 98, 88]];
     let steps = [
         (add(1, 2), 0, [[0, 2, 0, 0], [1, 2, 0, 0], [1, 99, 0, 0]]),
         (add(2, 3), 0, [[0, 2, 3, 0], [1, 2, 3, 6], [1, 99, 98, 6]]),
         (add(3, 4), 0, [[0, 2, 3, 4], [1, 2, 3, 10], [1, 99, 98, 2]]),
-        (take(1, 5), 0, [[0, 98, 3, 4], [1, 98, 3, 96], [1, 3, 98, 88]]),
-        (add(0, 101), 11, refused),
-        (add(4, 101), 12, refused),
-        (take(2, 101), 5, refused),
-        (add(2, 0), 0, [[0, 98, 3, 4], [1, 98, 3, 96], [1, 3, 98, 88]]),
+        (take(1, 5), 0, overdrawn),
+        (add(0, 101), 11, overdrawn),
+        (add(4, 101), 12, overdrawn),
+        (take(2, 101), 5, overdrawn),
+        (add(2, 0), 0, overdrawn),
         (take(3, 100), 0, [[0, 98, 3, 5], [1, 98, 3, 97], [1, 3, 98, 87]]),
     ];
     follow(101, fresh(2, 101, &mut Random::new(41)), &steps);
@@ -120,14 +120,12 @@ fn no_control() {
 #[test]
 fn largest_weights() {
     let (m, largest) = (4_294_967_295, 4_294_967_294);
-    let [a, e, i] = [(); 3].map(|_| vec![largest; 4]);
-    let second = largest - 1;
+    let (full, second) = (vec![largest; 4], largest - 1);
     let steps = [
         (add(3, largest), 0, [[largest, largest, largest, second], [largest, largest, largest, 0], [largest, largest, largest, second]]),
         (take(1, largest), 0, [[largest, 0, largest, second], [largest, second, largest, largest], [largest, 0, largest, largest]]),
     ];
-    let board = Board { a, e, i };
-    follow(m, board, &steps);
+    follow(m, Board { a: full.clone(), e: full.clone(), i: full }, &steps);
 }
 
 // ---- any three accepted tables
@@ -137,8 +135,8 @@ fn any_three_tables() {
     let random = &mut Random::new(43);
     for n in 1..=8 {
         for m in MODULI {
-            for (fill_a, fill_e, fill_i) in FILLS.into_iter().flat_map(|a| FILLS.map(|e| FILLS.map(|i| (a, e, i)))).flatten() {
-                let board = &mut filled(n, m, [fill_a, fill_e, fill_i], random);
+            for fills in FILLS.into_iter().flat_map(|a| FILLS.into_iter().flat_map(move |e| FILLS.map(|i| [a, e, i]))) {
+                let board = &mut filled(n, m, fills, random);
                 for kind in KINDS {
                     let set = 1 + random.residue((1 << n) - 1);
                     let any = random.residue(m);
@@ -159,7 +157,7 @@ fn product_of_any_tables() {
             let board = &mut filled(n, m, [Fill::Uniform; 3], random);
             let before = subset_product(m, &board.e, &board.i);
             for _ in 0..20 {
-                compare(n, m, any_change(n, m, random), board);
+                make(n, m, any_change(n, m, random), board);
             }
             assert_same(&subset_product(m, &board.e, &board.i), &before, || format!("e times i with n = {n}, m = {m}"));
         }
@@ -374,15 +372,15 @@ fn another_order_and_undone() {
 #[test]
 fn book_taken_out() {
     let random = &mut Random::new(51);
-    for (n, m) in [(0, 2), (3, 2), (5, 6), (8, 4_294_967_295), (10, 4_294_967_291)] {
-        let (changes, staying) = run(n, m, 30, random);
+    for (n, m) in [(1, 2), (3, 2), (5, 6), (8, 4_294_967_295), (10, 4_294_967_291)] {
+        let (_, staying) = run(n, m, 30, random);
         let mut joint = staying.clone();
         let mut book = fresh(n, m, random);
         for _ in 0..30 {
             let change = any_change(n, m, random);
-            assert_eq!(compare(n, m, change, &mut joint), compare(n, m, change, &mut book));
+            assert_eq!(make(n, m, change, &mut joint), make(n, m, change, &mut book));
         }
         let case = Case::new(Call::SubsetProduct, n, m, vec![joint.e, book.i]);
-        assert_same(&Call::SubsetProduct.run(&case).result, &staying.e, || format!("n = {n}, m = {m}, after {changes:?}"));
+        assert_same(&Call::SubsetProduct.run(&case).result, &staying.e, || format!("n = {n}, m = {m}"));
     }
 }

@@ -82,20 +82,25 @@ of_one_input!(exponential, sps_exponential);
 of_one_input!(logarithm, sps_logarithm);
 of_one_input!(inverse, sps_inverse);
 
+/// Pointer and length of each.
+fn parts(tables: [&mut [u32]; 3]) -> [(*mut u32, usize); 3] {
+    tables.map(|table| (table.as_mut_ptr(), table.len()))
+}
+
 pub fn board_fresh(n: u32, m: u32, tables: [&mut [u32]; 3]) -> u32 {
-    let [a, e, i] = tables.map(|table| (table.as_mut_ptr(), table.len()));
+    let [a, e, i] = parts(tables);
     // Sound: as above.
     unsafe { raw::sps_board_fresh(n, m, a.0, a.1, e.0, e.1, i.0, i.1) }
 }
 
 pub fn board_add(n: u32, m: u32, set: u32, weight: u32, tables: [&mut [u32]; 3]) -> u32 {
-    let [a, e, i] = tables.map(|table| (table.as_mut_ptr(), table.len()));
+    let [a, e, i] = parts(tables);
     // Sound: as above.
     unsafe { raw::sps_board_add(n, m, set, weight, a.0, a.1, e.0, e.1, i.0, i.1) }
 }
 
 pub fn board_take(n: u32, m: u32, set: u32, weight: u32, tables: [&mut [u32]; 3]) -> u32 {
-    let [a, e, i] = tables.map(|table| (table.as_mut_ptr(), table.len()));
+    let [a, e, i] = parts(tables);
     // Sound: as above.
     unsafe { raw::sps_board_take(n, m, set, weight, a.0, a.1, e.0, e.1, i.0, i.1) }
 }

@@ -3,7 +3,7 @@ use native.Mathlib.Omega.{arith}
 use denote.Ref.{now}
 use borrow.Author.Needs.{needs}
 use Rattle.definitions.specs.Boards.{Board, board, addedAt, raisedOver}
-use Rattle.board_calls.specs.Accepted.{changedBy, ready, ready-for, taken-table, lowered-table, accepted-change, refused-board}
+use Rattle.board_calls.specs.Accepted.{changedBy, ready, ready-for, lacking-table, lowered-table, accepted-change, refused-board}
 use Rattle.board_calls.proofs.change_board.Statement.{statement}
 use Rattle.board_calls.proofs.change_board.Tie as tie
 
@@ -68,8 +68,8 @@ returns c =
     let r = subtracting .subtract .ensures in
     let made = changing .change .ensures in
     accepted-change (s .n) (s .set) (s .weight) (old start) h e (choosing .if1 .taken)
-    (taken-table _ (λ (m d : ℕ). addedAt (s .n) m (s .set) d (now (s .a))) r (made .0))
-    (taken-table _ (λ (m d : ℕ). raisedOver (s .n) m (s .set) d (now (s .e))) r (made .1 .0))
+    (lacking-table _ (λ (m d : ℕ). addedAt (s .n) m (s .set) d (now (s .a))) r (made .0))
+    (lacking-table _ (λ (m d : ℕ). raisedOver (s .n) m (s .set) d (now (s .e))) r (made .1 .0))
     (made .1 .1)
 
 same-length-4 : tie.Need-same-length-4

@@ -24,8 +24,11 @@ pub struct Change {
     pub weight: u32,
 }
 
+/// A sum or a difference modulo m.
+type Join = fn(u32, u32, u32) -> u32;
+
 /// The table, with the entry of each set that contains the set joined with the weight times the old entry of that set without it.
-fn passed_on(table: &[u32], set: usize, weight: u32, m: u32, join: fn(u32, u32, u32) -> u32) -> Vec<u32> {
+fn passed_on(table: &[u32], set: usize, weight: u32, m: u32, join: Join) -> Vec<u32> {
     let entry = |all: usize| match all & set == set {
         true => join(table[all], times(weight, table[all & !set], m), m),
         false => table[all],
@@ -43,7 +46,7 @@ impl Board {
     /// The board after an accepted change, from the old one.
     pub fn changed(&self, m: u32, Change { kind, set, weight }: Change) -> Self {
         let set = set as usize;
-        let (onto, off): (fn(u32, u32, u32) -> u32, fn(u32, u32, u32) -> u32) = match kind {
+        let (onto, off): (Join, Join) = match kind {
             Kind::Add => (plus, minus),
             Kind::Take => (minus, plus),
         };
