@@ -38,7 +38,7 @@ struct Data {
     Table f = random(3, n + 1), g = random(4, n + 1);
     Table result = Table(entries, 1), row = Table(n + 1, 1), pad = Table(SPS_PAD_LENGTH(n), 1);
     Table plain_result = result, plain_row = row, work = pad;
-    Table board_a = a, board_e = b, plain_a = a, plain_e = b;
+    Table board_a = a, board_e = b, board_i = first_one, plain_a = a, plain_e = b, plain_i = first_one;
     u32 weight = random(5, 1)[0];
     Table left = result, right = result, recipe_pad = Table(SPS_RECIPE_PAD_LENGTH(n), 1);
     Table few = with_nonzero(std::max<std::size_t>(1, 300 * entries >> 16)), all = with_nonzero(entries);
@@ -171,20 +171,25 @@ std::vector<Bench> benches() {
         return sps_subset_product(d.n, d.m, TABLE(a), TABLE(b), d.work.data(), d.entries, PAD) & 0xffffffff;
     });
 
-    add("fresh board", "plain", [](Data &d) { return sps_board_fresh(d.n, d.m, TABLE(board_a), TABLE(board_e)); },
-        [](Data &d) { plain::board_fresh(d.n, d.plain_a.data(), d.plain_e.data()); });
+    add("fresh board", "plain", [](Data &d) { return sps_board_fresh(d.n, d.m, TABLE(board_a), TABLE(board_e), TABLE(board_i)); },
+        [](Data &d) { plain::board_fresh(d.n, d.plain_a.data(), d.plain_e.data(), d.plain_i.data()); });
     for (u32 size : {1, 2, 8}) {
         std::string call = "add, |S| = " + std::to_string(size);
         auto board_add = [size](Data &d) {
-            return sps_board_add(d.n, d.m, middle(d.n, size), d.weight, TABLE(board_a), TABLE(board_e));
+            return sps_board_add(d.n, d.m, middle(d.n, size), d.weight, TABLE(board_a), TABLE(board_e), TABLE(board_i));
         };
         add(call, "plain + tests", board_add, [size](Data &d) -> u64 {
-            if (!plain::all_below(d.n, d.m, d.plain_a.data()) || !plain::all_below(d.n, d.m, d.plain_e.data())) return SPS_ENTRY;
-            plain::board_add(d.n, d.m, middle(d.n, size), d.weight, d.plain_a.data(), d.plain_e.data());
+            for (const Table *table : {&d.plain_a, &d.plain_e, &d.plain_i}) {
+                if (!plain::all_below(d.n, d.m, table->data())) return SPS_ENTRY;
+            }
+            plain::board_add(d.n, d.m, middle(d.n, size), d.weight, d.plain_a.data(), d.plain_e.data(), d.plain_i.data());
             return 0;
         });
         add_in("exponential", call, board_add, [](Data &d) {
             return sps_exponential(d.n, d.m, TABLE(first_zero), d.work.data(), d.entries, PAD);
+        });
+        add_in("inverse", call, board_add, [](Data &d) {
+            return sps_inverse(d.n, d.m, TABLE(first_one), d.work.data(), d.entries, PAD);
         });
     }
 
@@ -270,10 +275,11 @@ std::vector<Bench> benches() {
 void compare(const Bench &bench, Data &d) {
     d.board_a = d.plain_a = d.a;
     d.board_e = d.plain_e = d.b;
+    d.board_i = d.plain_i = d.first_one;
     d.plain_buffer = d.buffer;
     u64 library = bench.library(d), plain = bench.plain(d);
     bool same = d.result == d.plain_result && d.row == d.plain_row && d.buffer == d.plain_buffer && d.board_a == d.plain_a
-        && d.board_e == d.plain_e;
+        && d.board_e == d.plain_e && d.board_i == d.plain_i;
     if (library != plain || !(same || bench.other)) {
         std::fprintf(stderr, "%s with n = %u, m = %u: the two differ\n", bench.call.c_str(), d.n, d.m);
         std::exit(EXIT_FAILURE);
@@ -342,8 +348,8 @@ int main() {
     std::printf("Medians of %d interleaved rounds. Plain forms without duties or tests refuse nothing and clear no pad; from exponential to\n"
                 "projection they work by the scalar subset product. Duties: what the contract asks of a call besides its\n"
                 "product, that is testing every entry, the ceiling (subset product) and clearing the pad. The yardsticks\n"
-                "\"subset product\", \"exponential\", \"full reader\" and \"full writer\" are the library's own calls, and so are\n"
-                "the calls of a recipe, made one by one. Weight is added to a board at controls from the middle of the panel;\n"
+                "\"subset product\", \"exponential\", \"inverse\", \"full reader\" and \"full writer\" are the library's own calls, and\n"
+                "so are the calls of a recipe, made one by one. Weight is added to a board at controls from the middle of the panel;\n"
                 "tests are those of every entry, in a reader those of everything in the file, in a writer of files or pages also\n"
                 "that of the buffer's length, for pages also those of everything in the label sheet, all made before the\n"
                 "table or the buffer is touched. A plain reader goes over the file once. In \"few\" 300 of 65,536 entries are not\n"

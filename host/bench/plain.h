@@ -56,9 +56,9 @@ u32 returned_ceiling(u32 n, const u32 *a, const u32 *b);
 
 void binomial_product(u32 n, u32 m, const u32 *f, const u32 *g, u32 *result);
 
-// Boards, changed in place: a table of exercises and its exponential.
-void board_fresh(u32 n, u32 *a, u32 *e);
-void board_add(u32 n, u32 m, u32 set, u32 weight, u32 *a, u32 *e);
+// Boards, changed in place: a table of exercises, its exponential and the inverse of that.
+void board_fresh(u32 n, u32 *a, u32 *e, u32 *i);
+void board_add(u32 n, u32 m, u32 set, u32 weight, u32 *a, u32 *e, u32 *i);
 
 // Table files. Each answers what the library's function does.
 enum class Kind { Full, Sparse };

@@ -77,17 +77,18 @@ void plain::binomial_product(u32 n, u32 m, const u32 *f, const u32 *g, u32 *resu
     }
 }
 
-void plain::board_fresh(u32 n, u32 *a, u32 *e) {
-    std::fill(a, a + (std::size_t{1} << n), 0);
-    std::fill(e, e + (std::size_t{1} << n), 0);
-    e[0] = 1;
+void plain::board_fresh(u32 n, u32 *a, u32 *e, u32 *i) {
+    for (u32 *table : {a, e, i}) std::fill(table, table + (std::size_t{1} << n), 0);
+    e[0] = i[0] = 1;
 }
 
 // The sets that contain the set, in rising code.
-void plain::board_add(u32 n, u32 m, u32 set, u32 weight, u32 *a, u32 *e) {
+void plain::board_add(u32 n, u32 m, u32 set, u32 weight, u32 *a, u32 *e, u32 *i) {
+    u32 opposite = (m - weight) % m;
     a[set] = static_cast<u32>((u64{a[set]} + weight) % m);
     for (std::size_t all = set; all < std::size_t{1} << n; all = (all + 1) | set) {
         e[all] = static_cast<u32>((e[all] + u64{weight} * e[all - set]) % m);
+        i[all] = static_cast<u32>((i[all] + u64{opposite} * i[all - set]) % m);
     }
 }
 

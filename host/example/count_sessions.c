@@ -3,9 +3,9 @@
  * The table says how many exercises there are for each set of controls. A session uses each control of the panel exactly
  * once, so the number of sessions is the whole panel's entry of the table's exponential. That number outgrows a machine
  * word; what is printed is its residue under several moduli, each by itself. Under the file's modulus also how the sessions
- * divide by their number of exercises, which is the projection of the table that is 1 at the empty set, and of the file's; and
- * how many are left when an exercise is withdrawn, by a board. Before that, the table itself as pages for the wall, with the
- * labels of the label sheet, and how many bytes its file of each kind has. */
+ * divide by their number of exercises, which is the projection of the table that is 1 at the empty set, and of the file's; and,
+ * by boards, how many are left when one exercise is withdrawn, and when all that use a single control are. Before that, the
+ * table itself as pages for the wall, with the labels of the label sheet, and how many bytes its file of each kind has. */
 #include <stdio.h>
 #include <stdlib.h>
 
@@ -106,33 +106,80 @@ static void divide_sessions(uint32_t n, uint32_t m) {
     free(one);
 }
 
-/* Puts the exercises on a board, and takes one off it again. */
-static void withdraw_exercise(uint32_t n, uint32_t m) {
-    const size_t length = SPS_TABLE_LENGTH(n);
-    uint32_t first = 0; /* the first set that has exercises */
-    uint32_t *a = malloc(length * sizeof *a);
-    uint32_t *e = malloc(length * sizeof *e);
-    if (a == NULL || e == NULL) exit(EXIT_FAILURE);
+/* A board: three tables that the host keeps. */
+struct board {
+    size_t length;
+    uint32_t *a, *e, *i;
+};
 
-    uint32_t number = sps_board_fresh(n, m, a, length, e, length);
-    for (uint32_t set = 1; set < length && number == SPS_ACCEPTED; set++) {
-        if (table[set] == 0) continue;
-        if (first == 0) first = set;
-        number = sps_board_add(n, m, set, table[set], a, length, e, length);
+static struct board new_board(uint32_t n) {
+    const size_t length = SPS_TABLE_LENGTH(n);
+    struct board b = {length, malloc(length * sizeof *b.a), malloc(length * sizeof *b.e), malloc(length * sizeof *b.i)};
+    if (b.a == NULL || b.e == NULL || b.i == NULL) exit(EXIT_FAILURE);
+    return b;
+}
+
+static void free_board(struct board b) {
+    free(b.i);
+    free(b.e);
+    free(b.a);
+}
+
+enum book { ALL_EXERCISES, SINGLE_CONTROLS };
+
+/* Puts the exercises of a book on a fresh board: all, or those that use a single control. */
+static uint32_t put_exercises(uint32_t n, uint32_t m, enum book book, struct board b) {
+    uint32_t number = sps_board_fresh(n, m, b.a, b.length, b.e, b.length, b.i, b.length);
+    for (uint32_t set = 1; set < b.length && number == SPS_ACCEPTED; set++) {
+        if (table[set] == 0 || (book == SINGLE_CONTROLS && (set & (set - 1)) != 0)) continue;
+        number = sps_board_add(n, m, set, table[set], b.a, b.length, b.e, b.length, b.i, b.length);
     }
-    if (number == SPS_ACCEPTED && first != 0) number = sps_board_take(n, m, first, 1, a, length, e, length);
-    if (first != 0) {
+    return number;
+}
+
+/* The whole panel's entry, or the word of the refusal. */
+static void show_outcome(uint32_t number, const uint32_t *counts, size_t length) {
+    if (number == SPS_ACCEPTED) {
+        printf(" %lu\n", (unsigned long)counts[length - 1]);
+    } else {
+        printf(" refused %lu\n", (unsigned long)number);
+    }
+}
+
+/* Puts all exercises on a board, and takes one off it again: of the first set that has any. */
+static void withdraw_exercise(uint32_t n, uint32_t m) {
+    struct board b = new_board(n);
+    uint32_t number = put_exercises(n, m, ALL_EXERCISES, b), first = 1;
+    while (first < b.length && table[first] == 0) first++;
+    if (first < b.length) {
+        if (number == SPS_ACCEPTED) number = sps_board_take(n, m, first, 1, b.a, b.length, b.e, b.length, b.i, b.length);
         printf("sessions without one exercise for a set, modulo %lu:\n", (unsigned long)m);
         printf("  ");
         show_set(first);
-        if (number == SPS_ACCEPTED) {
-            printf(" %lu\n", (unsigned long)e[length - 1]);
-        } else {
-            printf(" refused %lu\n", (unsigned long)number);
-        }
+        show_outcome(number, b.e, b.length);
     }
-    free(e);
-    free(a);
+    free_board(b);
+}
+
+/* Takes a whole book out of the joint count: the exercises that use a single control, which are on a board of their own. */
+static void withdraw_book(uint32_t n, uint32_t m) {
+    const size_t length = SPS_TABLE_LENGTH(n), pad_length = SPS_PAD_LENGTH(n);
+    struct board joint = new_board(n), book = new_board(n);
+    uint32_t *result = malloc(length * sizeof *result);
+    uint32_t *pad = malloc(pad_length * sizeof *pad);
+    if (result == NULL || pad == NULL) exit(EXIT_FAILURE);
+
+    uint32_t number = put_exercises(n, m, ALL_EXERCISES, joint);
+    if (number == SPS_ACCEPTED) number = put_exercises(n, m, SINGLE_CONTROLS, book);
+    if (number == SPS_ACCEPTED) {
+        number = (uint32_t)sps_subset_product(n, m, joint.e, length, book.i, length, result, length, pad, pad_length);
+    }
+    printf("sessions without exercises of a single control, modulo %lu:\n ", (unsigned long)m);
+    show_outcome(number, result, length);
+    free(pad);
+    free(result);
+    free_board(book);
+    free_board(joint);
 }
 
 static void show_sessions(uint32_t n, uint32_t m) {
@@ -144,6 +191,7 @@ static void show_sessions(uint32_t n, uint32_t m) {
     }
     divide_sessions(n, m);
     withdraw_exercise(n, m);
+    withdraw_book(n, m);
 }
 
 int main(int count, char **words) {

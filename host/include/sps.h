@@ -148,29 +148,34 @@ uint32_t sps_projection(uint32_t n, uint32_t m,
                         uint32_t *pad, size_t pad_len);
 
 /* ---- Boards --------------------------------------------------------------------------------------------------------
- * A board is two tables that the host keeps: a, the exercises there are for each set, and e, their exponential, kept up to
- * date as exercises come and go.  After a fresh board and any changes of it under the same n and m, with nobody else writing
- * to a or e, e is the exponential of a, and a[S] is the weight added at S less the weight taken there, over the accepted
- * changes. */
+ * A board is three tables that the host keeps: a, the exercises there are for each set; e, their exponential; and i, the
+ * inverse of e.  All are kept up to date as exercises come and go.  After a fresh board and any changes of it under the same n
+ * and m, with nobody else writing to a, e or i, a[S] is the weight added at S less the weight taken there, over the accepted
+ * changes, modulo m; e is the exponential of a, and i is the inverse of e: what sps_exponential gives for a, and sps_inverse for
+ * e.  The subset product of a joint count and i is the count without the exercises of the board. */
 
-/* A fresh board: a all 0; e equal to 1 at the empty set and 0 elsewhere.  What both held does not matter.  Refusals 1, 2, 3.
- * Time 2^n. */
+/* A fresh board: a all 0; e and i equal to 1 at the empty set and 0 elsewhere.  What the tables held does not matter.  Refusals
+ * 1, 2, 3.  Time 2^n. */
 uint32_t sps_board_fresh(uint32_t n, uint32_t m,
                          uint32_t *a, size_t a_len,
-                         uint32_t *e, size_t e_len);
+                         uint32_t *e, size_t e_len,
+                         uint32_t *i, size_t i_len);
 
-/* Adds the weight at the set with this code: a[set] grows by it, and for each T that contains the set e[T] grows by the
- * weight times the old e[T without the set].  Any two tables of residues do.  Refusals 1, 2, 3, 11, 12, 5, in this order; 5
- * for an entry of a or e and for the weight.  Time 2^n. */
+/* Adds the weight at the set with this code: a[set] grows by it; and for each T that contains the set, e[T] grows by the weight
+ * times the old e[T without the set], and i[T] falls by the weight times the old i[T without the set].  Any three tables of
+ * residues do.  Refusals 1, 2, 3, 11, 12, 5, in this order; 5 for an entry of a, e or i and for the weight.  Time 2^n. */
 uint32_t sps_board_add(uint32_t n, uint32_t m, uint32_t set, uint32_t weight,
                        uint32_t *a, size_t a_len,
-                       uint32_t *e, size_t e_len);
+                       uint32_t *e, size_t e_len,
+                       uint32_t *i, size_t i_len);
 
-/* Takes the weight out at the set: adds m - weight, so that more may be taken than was added.  Refusals and time as for
+/* Takes the weight out at the set: a and e change as if m - weight, modulo m, were added, so more may be taken than was added;
+ * and for each T that contains the set i[T] grows by the weight times the old i[T without the set].  Refusals and time as for
  * adding. */
 uint32_t sps_board_take(uint32_t n, uint32_t m, uint32_t set, uint32_t weight,
                         uint32_t *a, size_t a_len,
-                        uint32_t *e, size_t e_len);
+                        uint32_t *e, size_t e_len,
+                        uint32_t *i, size_t i_len);
 
 /* ---- Recipes -------------------------------------------------------------------------------------------------------
  * A recipe is a line over four tables named A to D, such as A*B+exp(C).  It is a letter; or two recipes with a sign between

@@ -7,39 +7,44 @@ use native.Mathlib.Omega.{arith}
 use lib.ListN.{length, set, length-append}
 use Rattle.definitions.specs.Refusals.{after}
 use Rattle.definitions.specs.Sums.{at}
-use Rattle.definitions.specs.Boards.{Board, board, addedAt, raisedOver, lacking, freshBoard, freshNumber, changeNumber, boardAfter, Change, numberOn, changed, next, run, runNumbers}
+use Rattle.definitions.specs.Boards.{Board, board, addedAt, raisedOver, loweredOver, lacking, freshBoard, freshNumber, changeNumber, boardAfter, Change, numberOn, changed, next, run, runNumbers}
+use Rattle.board_theory.specs.Moves.{table-by-table}
 use Rattle.board_theory.specs.Runs.{run-more, numbers-more, numbers-length}
 use Rattle.board_laws.specs.Law.{changeOf, changesOf, Calls, ChangeMade, written, ChangesMade, Run}
 
 -- table by table
-board-after : (k : ℕ) (new old : Board) {A E : List ℕ} → A ≡ after k (new .weights) (old .weights) → E ≡ after k (new .exponential) (old .exponential)
-    → _≡_ {A = Board} (board A E) (boardAfter k new old)
-board-after zero new old p q = ap₂ board p q
-board-after (suc k) new old p q = ap₂ board p q
+board-after : (k : ℕ) (new old : Board) {A E I : List ℕ} → A ≡ after k (new .weights) (old .weights)
+    → E ≡ after k (new .exponential) (old .exponential) → I ≡ after k (new .inverse) (old .inverse)
+    → _≡_ {A = Board} (board A E I) (boardAfter k new old)
+board-after zero new old = table-by-table
+board-after (suc k) new old = table-by-table
 
 -- ---- one change
 
 module _ (n m : ℕ) (x : Change) (b : Board) where
-  made : {r : ℕ} {A E : List ℕ} → r ≡ numberOn n m b x → A ≡ after r (changed n m b x .weights) (b .weights) → E ≡ after r (changed n m b x .exponential) (b .exponential)
-      → ChangeMade n m x b r (board A E)
+  made : {r : ℕ} {A E I : List ℕ} → r ≡ numberOn n m b x → A ≡ after r (changed n m b x .weights) (b .weights)
+      → E ≡ after r (changed n m b x .exponential) (b .exponential) → I ≡ after r (changed n m b x .inverse) (b .inverse)
+      → ChangeMade n m x b r (board A E I)
   unfolding next
-  made {r} e p q = record {
+  made {r} e p q s = record {
     number = e;
-    board = board-after r (changed n m b x) b p q ∙ ap (λ (k : ℕ). boardAfter k (changed n m b x) b) e;
+    board = board-after r (changed n m b x) b p q s ∙ ap (λ (k : ℕ). boardAfter k (changed n m b x) b) e;
   }
 
-module _ (n m : ℕ) (kind S c : ℕ) (b : Board) {r : ℕ} {A E : List ℕ} (e : r ≡ changeNumber n m S c b) where
-  pub made-add : kind ≡ 0 → A ≡ after r (addedAt n m S c (b .weights)) (b .weights) → E ≡ after r (raisedOver n m S c (b .exponential)) (b .exponential)
-      → ChangeMade n m (changeOf kind S c) b r (board A E)
-  made-add z p q =
-      subst (λ (k : ℕ). ChangeMade n m (changeOf k S c) b r (board A E)) (sym z) (made n m (changeOf 0 S c) b e p q)
+module _ (n m : ℕ) (kind S c : ℕ) (b : Board) {r : ℕ} {A E I : List ℕ} (e : r ≡ changeNumber n m S c b) where
+  pub made-add : kind ≡ 0 → A ≡ after r (addedAt n m S c (b .weights)) (b .weights)
+      → E ≡ after r (raisedOver n m S c (b .exponential)) (b .exponential) → I ≡ after r (loweredOver n m S c (b .inverse)) (b .inverse)
+      → ChangeMade n m (changeOf kind S c) b r (board A E I)
+  made-add z p q s =
+      subst (λ (k : ℕ). ChangeMade n m (changeOf k S c) b r (board A E I)) (sym z) (made n m (changeOf 0 S c) b e p q s)
 
-  pub made-take : (kind ≡ 0 → ⊥) → A ≡ after r (addedAt n m S (lacking m c) (b .weights)) (b .weights) → E ≡ after r (raisedOver n m S (lacking m c) (b .exponential)) (b .exponential)
-      → ChangeMade n m (changeOf kind S c) b r (board A E)
-  made-take d p q = by kind d where
-    by : (k : ℕ) → (k ≡ 0 → ⊥) → ChangeMade n m (changeOf k S c) b r (board A E)
+  pub made-take : (kind ≡ 0 → ⊥) → A ≡ after r (addedAt n m S (lacking m c) (b .weights)) (b .weights)
+      → E ≡ after r (raisedOver n m S (lacking m c) (b .exponential)) (b .exponential) → I ≡ after r (raisedOver n m S c (b .inverse)) (b .inverse)
+      → ChangeMade n m (changeOf kind S c) b r (board A E I)
+  made-take d p q s = by kind d where
+    by : (k : ℕ) → (k ≡ 0 → ⊥) → ChangeMade n m (changeOf k S c) b r (board A E I)
     by zero d = absurd (d refl)
-    by (suc k) d = made n m (changeOf (suc k) S c) b e p q
+    by (suc k) d = made n m (changeOf (suc k) S c) b e p q s
 
 -- ---- the numbers that are kept
 
@@ -96,10 +101,11 @@ module _ (kinds sets weights : List ℕ) where
 
 -- ---- the fresh board before it
 
-pub fresh-run : (n m : ℕ) (c : Calls) {A E : List ℕ} → c .fresh ≡ freshNumber n m (c .found)
+pub fresh-run : (n m : ℕ) (c : Calls) {A E I : List ℕ} → c .fresh ≡ freshNumber n m (c .found)
     → A ≡ after (c .fresh) (freshBoard n .weights) (c .found .weights) → E ≡ after (c .fresh) (freshBoard n .exponential) (c .found .exponential)
-    → ChangesMade n m (c .changes) (board A E) (c .left) (c .lent) (c .kept) → Run n m c
-fresh-run n m c e p q h = record {
+    → I ≡ after (c .fresh) (freshBoard n .inverse) (c .found .inverse)
+    → ChangesMade n m (c .changes) (board A E I) (c .left) (c .lent) (c .kept) → Run n m c
+fresh-run n m c e p q s h = record {
   fresh = e;
-  changes = subst (λ (b : Board). ChangesMade n m (c .changes) b (c .left) (c .lent) (c .kept)) (board-after (c .fresh) (freshBoard n) (c .found) p q) h;
+  changes = subst (λ (b : Board). ChangesMade n m (c .changes) b (c .left) (c .lent) (c .kept)) (board-after (c .fresh) (freshBoard n) (c .found) p q s) h;
 }

@@ -23,13 +23,14 @@ fn make_change(
     weight: u32,
     a: &mut [u32],
     e: &mut [u32],
+    i: &mut [u32],
 ) -> u32
-    ensures { λ r. ⌜ ChangeMade n m (changeOf kind set weight) (board (now (a .entry)) (now (e .entry))) r (board (now (a .exit)) (now (e .exit))) ⌝ }
+    ensures { λ r. ⌜ ChangeMade n m (changeOf kind set weight) (board (now (a .entry)) (now (e .entry)) (now (i .entry))) r (board (now (a .exit)) (now (e .exit)) (now (i .exit))) ⌝ }
 {
     if kind == 0 {
-        board_add(n, m, set, weight, a, e)
+        board_add(n, m, set, weight, a, e, i)
     } else {
-        board_take(n, m, set, weight, a, e)
+        board_take(n, m, set, weight, a, e, i)
     }
 }
 
@@ -52,23 +53,24 @@ fn make_changes(
     numbers: &mut [u32],
     a: &mut [u32],
     e: &mut [u32],
+    i: &mut [u32],
 )
     ensures { λ _. ⌜ ChangesMade n m (lentChanges (now (kinds .entry)) (now (sets .entry)) (now (weights .entry)))
-        (board (now (a .entry)) (now (e .entry))) (board (now (a .exit)) (now (e .exit))) (now (numbers .entry)) (now (numbers .exit)) ⌝ }
+        (board (now (a .entry)) (now (e .entry)) (now (i .entry))) (board (now (a .exit)) (now (e .exit)) (now (i .exit))) (now (numbers .entry)) (now (numbers .exit)) ⌝ }
 {
     let count = least(least(kinds.len(), sets.len()), weights.len());
-    let mut i = 0;
-    while i < count {
-        let kind = kinds[i];
-        let set = sets[i];
-        let weight = weights[i];
-        let number = make_change(n, m, kind, set, weight, a, e);
-        keep(number, i, numbers);
-        i += 1;
+    let mut k = 0;
+    while k < count {
+        let kind = kinds[k];
+        let set = sets[k];
+        let weight = weights[k];
+        let number = make_change(n, m, kind, set, weight, a, e, i);
+        keep(number, k, numbers);
+        k += 1;
     }
 }
 
-// Makes a fresh board in a and e and returns its number; then makes the changes of three lists of any length, of which the shortest
+// Makes a fresh board in a, e and i and returns its number; then makes the changes of three lists of any length, of which the shortest
 // counts. Kind 0 adds, every other takes. The number of each is kept as far as there is room.
 pub fn board_law(
     n: u32,
@@ -79,17 +81,18 @@ pub fn board_law(
     numbers: &mut [u32],
     a: &mut [u32],
     e: &mut [u32],
+    i: &mut [u32],
 ) -> u32
     ensures { λ r. ⌜ Lawful n m (record {
       changes = lentChanges (now (kinds .entry)) (now (sets .entry)) (now (weights .entry));
-      found = board (now (a .entry)) (now (e .entry));
-      left = board (now (a .exit)) (now (e .exit));
+      found = board (now (a .entry)) (now (e .entry)) (now (i .entry));
+      left = board (now (a .exit)) (now (e .exit)) (now (i .exit));
       fresh = r;
       lent = now (numbers .entry);
       kept = now (numbers .exit);
     }) ⌝ }
 {
-    let fresh = board_fresh(n, m, a, e);
-    make_changes(n, m, kinds, sets, weights, numbers, a, e);
+    let fresh = board_fresh(n, m, a, e, i);
+    make_changes(n, m, kinds, sets, weights, numbers, a, e, i);
     fresh
 }

@@ -143,10 +143,10 @@ module _ {n : ℕ} {modulus : Modulus} {S c : ℕ} {r : List ℕ} (h : TableRead
       }
 
 -- c added at S
-pub added-set : {n : ℕ} {modulus : Modulus} {S c : ℕ} {b : Board} → BoardReady n modulus S c b → {v : ℕ} → v ≡ (at (b .weights) S + c) % modulus .value
+pub added-set : {n : ℕ} {modulus : Modulus} {S c d : ℕ} {b : Board} → BoardReady n modulus S c d b → {v : ℕ} → v ≡ (at (b .weights) S + c) % modulus .value
     → set (b .weights) S v ≡ addedAt n (modulus .value) S c (b .weights)
 unfolding addedAt residues
-added-set {n} {modulus} {S} {c} {b} h {v} e =
+added-set {n} {modulus} {S} {c} {b = b} h {v} e =
     ap (λ (u : List ℕ). set u S v) (sym (tabulate-self (2 ^ n) A (table .size)))
     ∙ set-tabulate (2 ^ n) (at A) (λ T. (at A T + cond (eqb T S) c 0) % m) S v (h .change .code)
     (e ∙ ap (λ (g : Bool). (at A S + cond g c 0) % m) (sym (eq-eqb S S refl))) (λ T k d. sym (stays T d))

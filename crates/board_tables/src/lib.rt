@@ -1,4 +1,4 @@
-// The two tables of a board, in place: those of a fresh one, and what an accepted change does to each.
+// The three tables of a board, in place: those of a fresh one, and what an accepted change does to each.
 ghost use mathlib.Core.Path.{_≡_};
 ghost use Prim.Native.Nat.{_+_, _*_, _<_};
 ghost use lib.ListN.{length};
@@ -54,13 +54,24 @@ fn raise(n: u32, modulus: Modulus, set: usize, weight: u32, table: &mut [u32])
     }
 }
 
-// An accepted change, with this weight to add at the set.
-pub fn change(n: u32, modulus: Modulus, set: usize, weight: u32, a: &mut [u32], e: &mut [u32])
-    requires { ⌜ BoardReady n modulus set weight (board (now a) (now e)) ⌝ }
+// An accepted change: this weight is added at the set, and i is raised by the opposite weight.
+pub fn change(
+    n: u32,
+    modulus: Modulus,
+    set: usize,
+    weight: u32,
+    opposite: u32,
+    a: &mut [u32],
+    e: &mut [u32],
+    i: &mut [u32],
+)
+    requires { ⌜ BoardReady n modulus set weight opposite (board (now a) (now e) (now i)) ⌝ }
     ensures { λ _. ⌜ now (a .exit) ≡ addedAt n (modulus .value) set weight (now (a .entry)) ⌝ }
     ensures { λ _. ⌜ now (e .exit) ≡ raisedOver n (modulus .value) set weight (now (e .entry)) ⌝ }
+    ensures { λ _. ⌜ now (i .exit) ≡ raisedOver n (modulus .value) set opposite (now (i .entry)) ⌝ }
 {
     let x = a[set];
     a[set] = modulus.add(x, weight);
     raise(n, modulus, set, weight, e);
+    raise(n, modulus, set, opposite, i);
 }

@@ -1,7 +1,7 @@
 -- When a change of a board, and the making of one, is accepted: the facts that the tests give.
 --   change-accepted, fresh-accepted     from the number 0 to the facts
---   accepted-board, own-number          of two accepted tables only the change's own words are left
-use mathlib.Core.Path.{_≡_, refl}
+--   accepted-board, own-number, same-number     of three accepted tables only the change's own words are left
+use mathlib.Core.Path.{_≡_, refl, sym, _∙_}
 use mathlib.Core.Bool.{not}
 use mathlib.Core.List.{List, [], _∷_}
 use Prim.Native.Nat.{ℕ, _^_, _<_}
@@ -34,11 +34,18 @@ pub record IsBoard (n m : ℕ) (b : Board) : Type 0 where
   pub range : InRange n m
   pub weights : IsTable n m (b .weights)
   pub exponential : IsTable n m (b .exponential)
+  pub inverse : IsTable n m (b .inverse)
 
-pub accepted-board : (n m : ℕ) (b : Board) → AcceptedTable n m (b .weights) → AcceptedTable n m (b .exponential) → IsBoard n m b
-accepted-board n m b p q =
+pub accepted-board : (n m : ℕ) (b : Board) → AcceptedTable n m (b .weights) → AcceptedTable n m (b .exponential)
+    → AcceptedTable n m (b .inverse) → IsBoard n m b
+accepted-board n m b p q r =
     let a = table-accepted n m (b .weights) p in
-    record { range = a .0; weights = a .1; exponential = table-accepted n m (b .exponential) q .1 }
+    record {
+      range = a .0;
+      weights = a .1;
+      exponential = table-accepted n m (b .exponential) q .1;
+      inverse = table-accepted n m (b .inverse) r .1;
+    }
 
 pub record IsChange (n m S c : ℕ) (b : Board) : Type 0 where
   pub board : IsBoard n m b
@@ -51,19 +58,21 @@ abbrev pub changeWords : ℕ → ℕ → ℕ → ℕ → Board → List ℕ
 changeWords n m S c b =
     tableWord n (length (b .weights))
     ∷ tableWord n (length (b .exponential))
+    ∷ tableWord n (length (b .inverse))
     ∷ emptyWord S
     ∷ codeWord n S
     ∷ entryWord m (b .weights)
     ∷ entryWord m (b .exponential)
+    ∷ entryWord m (b .inverse)
     ∷ weightWord m c
     ∷ []
 
 module _ (n m S c : ℕ) (b : Board) where
   change-facts : AllZero (panelWord n ∷ modulusWord m ∷ changeWords n m S c b) → IsChange n m S c b
-  change-facts (p, (q, (la, (le, (k, (s, (ea, (ee, (w, z))))))))) =
-      let i = in-range p q in
+  change-facts (p, (q, (la, (le, (li, (k, (s, (ea, (ee, (ei, (w, z))))))))))) =
+      let r = in-range p q in
       record {
-        board = record { range = i; weights = entries i la ea; exponential = entries i le ee };
+        board = record { range = r; weights = entries r la ea; exponential = entries r le ee; inverse = entries r li ei };
         some = some-control S k;
         code = code-below n S s;
         weight = weight-below m c w;
@@ -80,8 +89,10 @@ module _ (n m S c : ℕ) (b : Board) where
     range-modulus (h .range),
     entries-length (h .weights),
     entries-length (h .exponential),
+    entries-length (h .inverse),
     entries-below (h .weights),
     entries-below (h .exponential),
+    entries-below (h .inverse),
   ) refl
 
 -- the number that its set and its weight alone give a change
@@ -94,23 +105,30 @@ pub own-number : (n m : ℕ) (b : Board) (x : Change) → IsBoard n m b → numb
 own-number n m b (adds S c) h = set-and-weight n m S c b h
 own-number n m b (takes S c) h = set-and-weight n m S c b h
 
+-- so accepted boards give a change the same number
+pub same-number : (n m : ℕ) (b c : Board) (x : Change) → IsBoard n m b → IsBoard n m c → numberOn n m b x ≡ numberOn n m c x
+same-number n m b c x h k = own-number n m b x h ∙ sym (own-number n m c x k)
+
 -- ---- a fresh board
 
 pub record IsRoom (n m : ℕ) (b : Board) : Type 0 where
   pub range : InRange n m
   pub weights : length (b .weights) ≡ 2 ^ n
   pub exponential : length (b .exponential) ≡ 2 ^ n
+  pub inverse : length (b .inverse) ≡ 2 ^ n
 
 abbrev pub freshWords : ℕ → Board → List ℕ
-freshWords n b = tableWord n (length (b .weights)) ∷ tableWord n (length (b .exponential)) ∷ []
+freshWords n b =
+    tableWord n (length (b .weights)) ∷ tableWord n (length (b .exponential)) ∷ tableWord n (length (b .inverse)) ∷ []
 
 module _ (n m : ℕ) (b : Board) where
   fresh-facts : AllZero (panelWord n ∷ modulusWord m ∷ freshWords n b) → IsRoom n m b
-  fresh-facts (p, (q, (la, (le, z)))) =
+  fresh-facts (p, (q, (la, (le, (li, z))))) =
       record {
         range = in-range p q;
         weights = right-length (2 ^ n) (length (b .weights)) la;
         exponential = right-length (2 ^ n) (length (b .exponential)) le;
+        inverse = right-length (2 ^ n) (length (b .inverse)) li;
       }
 
   pub fresh-accepted : freshNumber n m b ≡ 0 → IsRoom n m b

@@ -1,17 +1,21 @@
--- One step of a board. What is added at S to a table raises its exponential over S, and raising over S is a product.
+-- One step of a board. What is added at S to a table raises its exponential over S; raising over S is a product, and lowering by c is
+-- raising by what c lacks to m.
 --   exponential-raised              exp (A with c added at S) = exp A, raised by c over S
 --   exponential-fresh               the exponential of zeros
---   raised-product, raised-comm     raising over S is the product with 1 + c x^S, so two raisings may change places
+--   raised-product, raised-factor, raised-comm     raising over S is the product with 1 + c x^S, so it may be done to a factor, and
+--                                   two raisings may change places
 --   added-at, added-first           what is added at S: modulo m, and at the empty set
 --   added-comm                      two additions may change places too
 --   raised-twice, added-twice       two at one set are one with both weights
 --   raised-nothing, added-nothing   a multiple of m changes no table of residues
---   lacking-back                    c, and what c lacks to m
+--   lowered-raised, raised-lowered  lowering by c is raising by what c lacks to m, and the other way round
+--   product-kept                    E · I stays if E is raised by c and I by d, which together are 0 modulo m
+--   lacking-back, lacking-whole, with-lacking      c, and what c lacks to m
 use mathlib.Core.Path.{_≡_, refl, sym, ap, ap₂, _∙_}
 use mathlib.Core.Bool.{Bool, true, false, cond}
 use mathlib.Core.List.{List}
 use Prim.Native.Nat.{ℕ, _+_, _*_, _-_, _%_, _^_, _<_, _≤_}
-use native.Mathlib.Nat.{mod-mod, zero-mod, add-zero, zero-mul}
+use native.Mathlib.Nat.{mod-mod, mod-lt, mod-eq-of-lt, zero-mod, add-zero, zero-add, add-comm, zero-mul}
 use native.Mathlib.Omega.{arith}
 use lib.Dec.{eqb}
 use lib.Pow.{pow-pos}
@@ -19,11 +23,11 @@ use Rattle.definitions.specs.Sums.{tabulate, at}
 use Rattle.definitions.specs.Sets.{inside}
 use Rattle.definitions.specs.Products.{residues, subsetTable}
 use Rattle.definitions.specs.Partitions.{compositionSum, exponentialTable, allOnes, unit}
-use Rattle.definitions.specs.Boards.{addedAt, raisedOver, lacking}
+use Rattle.definitions.specs.Boards.{addedAt, raisedOver, loweredOver, lacking}
 use Rattle.theory.specs.Tests.{no-test}
 use Rattle.theory.specs.Lists.{at-tabulate, at-residues, residues-ext, residues-self}
 use Rattle.theory.specs.Codes.{inside→eq, apart-rest}
-use Rattle.theory.specs.Remainders.{mod-add, mod-mul, mod-back}
+use Rattle.theory.specs.Remainders.{mod-add, mod-mul, mod-back, mod-cancel, lacks}
 use Rattle.theory.specs.Series.{exponential-plus, subset-mod}
 use Rattle.theory.specs.Tables.{at-mod, composition-residues, product-comm, product-assoc, exponential-of-zeros}
 use Rattle.theory.specs.Inverse.{unit-table}
@@ -37,6 +41,22 @@ lacking-back m w c h =
     mod-add m (w + lacking m c) c ((w + (m - c)) % m) c
     (mod-add m w (lacking m c) w (m - c) refl (mod-mod (m - c) m) ∙ sym (mod-mod (w + (m - c)) m)) refl
     ∙ mod-back m w c h
+
+pub lacking-whole : (m c : ℕ) → c < m → (lacking m c + c) % m ≡ 0
+lacking-whole m c h = ap (λ (k : ℕ). (k + c) % m) (sym (zero-add (lacking m c))) ∙ lacking-back m 0 c (omega arith) ∙ zero-mod m
+
+pub with-lacking : (m c : ℕ) → c < m → (c + lacking m c) % m ≡ 0
+with-lacking m c h = ap (λ (k : ℕ). k % m) (add-comm c (lacking m c)) ∙ lacking-whole m c h
+
+lacking-below : (m c : ℕ) → c < m → lacking m c < m
+lacking-below m c h = mod-lt (m - c) (omega arith)
+
+lacking-twice : (m c : ℕ) → c < m → lacking m (lacking m c) ≡ c
+lacking-twice m c h =
+    let d : ℕ = lacking m c in
+    let k : d < m = lacking-below m c h in
+    sym (mod-eq-of-lt (lacking-below m d k))
+    ∙ mod-cancel m (omega arith) d (lacking m d) d c refl (with-lacking m d k ∙ sym (lacking-whole m c h)) ∙ mod-eq-of-lt h
 
 module _ (n m : ℕ) where
   -- ---- what is added at S
@@ -111,6 +131,11 @@ module _ (n m : ℕ) where
           (λ R k. ap (λ (x : ℕ). x % m) (single-exponential n S c some R k) ∙ sym (at-mod n m oneAnd R k)) T h)
           ∙ sym (raised-product code (exponentialTable n m A))
 
+  pub raised-factor : (S c : ℕ) → S < 2 ^ n → (D E : List ℕ) → raisedOver n m S c (subsetTable n m D E) ≡ subsetTable n m D (raisedOver n m S c E)
+  raised-factor S c code D E =
+      raised-product S c code (subsetTable n m D E) ∙ product-assoc n m D E (residues n m (oneAnd S c))
+      ∙ ap (subsetTable n m D) (sym (raised-product S c code E))
+
   pub raised-comm : (S c R d : ℕ) → S < 2 ^ n → R < 2 ^ n → (E : List ℕ) → raisedOver n m R d (raisedOver n m S c E) ≡ raisedOver n m S c (raisedOver n m R d E)
   raised-comm S c R d s r E =
       both S c R d s r ∙ ap (subsetTable n m E) (product-comm n m (residues n m (oneAnd S c)) (residues n m (oneAnd R d))) ∙ sym (both R d S c r s)
@@ -147,6 +172,44 @@ module _ (n m : ℕ) where
           mod-add m x (w * y) x 0 refl (mod-mul m w y 0 y (z ∙ sym (zero-mod m)) refl ∙ ap (λ (k : ℕ). k % m) (zero-mul y))
           ∙ ap (λ (k : ℕ). k % m) (add-zero x)
       stays x y false = ap (λ (k : ℕ). k % m) (add-zero x)
+
+  -- E (1 + c x^S) · I (1 + d x^S) = E · I (1 + (d + c) x^S) = E · I
+  pub product-kept : (S c d : ℕ) → 0 < S → S < 2 ^ n → (d + c) % m ≡ 0 → (E I : List ℕ) → IsTable n m I
+      → subsetTable n m (raisedOver n m S c E) (raisedOver n m S d I) ≡ subsetTable n m E I
+  product-kept S c d some code z E I h =
+      let P : List ℕ = residues n m (oneAnd S c) in
+      let J : List ℕ = raisedOver n m S d I in
+      ap (λ (t : List ℕ). subsetTable n m t J) (raised-product S c code E) ∙ product-assoc n m E P J
+      ∙ ap (subsetTable n m E)
+      (product-comm n m P J ∙ sym (raised-product S c code J) ∙ raised-twice S d c some I ∙ raised-nothing S (d + c) I z h)
+
+  -- ---- lowering over S
+
+  pub lowered-raised : (S c : ℕ) → c < m → (I : List ℕ) → loweredOver n m S c I ≡ raisedOver n m S (lacking m c) I
+  unfolding loweredOver raisedOver
+  lowered-raised S c h I = residues-ext n m _ _ (λ T k. by (at I T) (at I (T - S)) (inside S T)) where
+    d : ℕ
+    d = lacking m c
+
+    -- both give 0 when c y is added
+    opposite : (y : ℕ) → (m - c * y % m) % m ≡ d * y % m
+    opposite y =
+        let front : c * y + (m - c * y % m) ≡ m - c * y % m + c * y = omega arith in
+        let back : c * y + d * y ≡ (d + c) * y = omega arith in
+        mod-cancel m (omega arith) (c * y) (m - c * y % m) (c * y) (d * y) refl
+        (ap (λ (k : ℕ). k % m) front ∙ lacks m (omega arith) (c * y)
+        ∙ sym (ap (λ (k : ℕ). k % m) back
+        ∙ mod-mul m (d + c) y 0 y (lacking-whole m c h ∙ sym (zero-mod m)) refl ∙ ap (λ (k : ℕ). k % m) (zero-mul y) ∙ zero-mod m))
+
+    by : (x y : ℕ) (b : Bool) → (x + cond b (m - c * y % m) 0) % m ≡ (x + cond b (d * y) 0) % m
+    by x y true = mod-add m x (m - c * y % m) x (d * y) refl (opposite y)
+    by x y false = refl
+
+  pub raised-lowered : (S c : ℕ) → c < m → (I : List ℕ) → raisedOver n m S c I ≡ loweredOver n m S (lacking m c) I
+  raised-lowered S c h I =
+      ap (λ (d : ℕ). raisedOver n m S d I) (sym (lacking-twice m c h)) ∙ sym (lowered-raised S (lacking m c) (lacking-below m c h) I)
+
+  -- ---- the fresh board
 
   pub exponential-fresh : 2 ≤ m → exponentialTable n m (tabulate (2 ^ n) (λ S. 0)) ≡ tabulate (2 ^ n) unit
   exponential-fresh two = exponential-of-zeros n m (tabulate (2 ^ n) (λ S. 0)) (at-tabulate (2 ^ n) (λ S. 0)) ∙ unit-table n m two

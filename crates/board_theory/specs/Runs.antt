@@ -1,8 +1,10 @@
 -- Lists of changes of a fresh board.
---   next-accepted, next-refused, next-keeps    one change
---   next-board, next-sound          what every change keeps: tables of residues, and E is the exponential of A (Sound)
+--   next-moved, next-refused        one change
+--   next-board, Sound, fresh-sound  what every change keeps: tables of residues, and E is the exponential of A
+--   product, run-product            and the product of E and I, on any three accepted tables
 --   run-weight                      the weight at a set after a list of changes
 --   board-law, fresh-numbers        the law, for every list; none is refused but for its set or its weight
+--   law-determines                  no other board meets the law
 --   run-more, numbers-more, numbers-length     a list that grows at its end
 use mathlib.Core.Path.{_≡_, refl, sym, ap, ap₂, subst, _∙_}
 use mathlib.Core.Bool.{Bool, true, false, cond}
@@ -14,47 +16,54 @@ use lib.Dec.{eqb}
 use lib.ListN.{length}
 use lib.Pow.{pow-pos}
 use Rattle.definitions.specs.Sums.{tabulate, at}
-use Rattle.definitions.specs.Products.{residues}
-use Rattle.definitions.specs.Partitions.{exponentialTable, unit}
+use Rattle.definitions.specs.Products.{residues, subsetTable}
+use Rattle.definitions.specs.Partitions.{exponentialTable, unit, IsInverse}
 use Rattle.definitions.specs.Refusals.{valueAfter}
-use Rattle.definitions.specs.Boards.{Board, addedAt, raisedOver, freshBoard, boardAdd, lacking, boardAfter}
+use Rattle.definitions.specs.Boards.{Board, addedAt, raisedOver, freshBoard, lacking, boardAfter}
 use Rattle.definitions.specs.Boards.{Change, adds, takes, numberOn, changed, next, run, runNumbers, addsAt, takesAt, total, BoardLaw}
-use Rattle.theory.specs.Lists.{at-tabulate, tabulate-ext}
+use Rattle.theory.specs.Lists.{at-tabulate, tabulate-ext, tabulate-self}
+use Rattle.theory.specs.Entries.{at-below}
 use Rattle.theory.specs.Remainders.{mod-add, mod-sub}
-use Rattle.theory.specs.Inverse.{unit-table}
-use Rattle.checks.specs.Accepted.{InRange, IsTable, table-accepts}
+use Rattle.theory.specs.Tables.{product-unit}
+use Rattle.theory.specs.Inverse.{unit-table, inverse-unique}
+use Rattle.checks.specs.Accepted.{InRange, IsTable, table-accepts, table-accepted}
 use Rattle.laws_theory.specs.Accepting.{residues-table}
-use Rattle.board_theory.specs.Raised.{exponential-raised, exponential-fresh, added-at, added-first, lacking-back}
+use Rattle.board_theory.specs.Raised.{exponential-raised, exponential-fresh, product-kept, added-at, added-first, lacking-back}
 use Rattle.board_theory.specs.Accepted.{IsBoard, change-accepted, ownNumber, own-number}
+use Rattle.board_theory.specs.Moves.{table-by-table, moved, place, amount, opposite, move, changed-is, IsMove, is-move}
 
 module _ (n m : ℕ) where
   -- ---- one change
 
-  pub add-board : (S c : ℕ) (b : Board) → IsBoard n m b → IsBoard n m (boardAdd n m S c b)
-  unfolding addedAt raisedOver
-  add-board S c b h =
-      record { range = h .range; weights = residues-table (h .range) _; exponential = residues-table (h .range) _ }
-
-  pub next-accepted : (b : Board) (x : Change) → numberOn n m b x ≡ 0 → next n m b x ≡ changed n m b x
+  next-accepted : (b : Board) (x : Change) → numberOn n m b x ≡ 0 → next n m b x ≡ changed n m b x
   unfolding next
   next-accepted b x e = ap (λ (k : ℕ). boardAfter k (changed n m b x) b) e
+
+  pub next-moved : (b : Board) (x : Change) → numberOn n m b x ≡ 0 → next n m b x ≡ move n m x b
+  next-moved b x e = next-accepted b x e ∙ changed-is n m b x e
 
   pub next-refused : (b : Board) (x : Change) (k : ℕ) → numberOn n m b x ≡ suc k → next n m b x ≡ b
   unfolding next
   next-refused b x k e = ap (λ (k : ℕ). boardAfter k (changed n m b x) b) e
 
   -- what an accepted change keeps, every change does
-  pub next-keeps : (P : Board → Type 0) (b : Board) (x : Change) → P b → (numberOn n m b x ≡ 0 → P (changed n m b x)) → P (next n m b x)
+  next-keeps : (P : Board → Type 0) (b : Board) (x : Change) → P b → (numberOn n m b x ≡ 0 → P (move n m x b)) → P (next n m b x)
   next-keeps P b x h k = by (numberOn n m b x) refl where
     by : (j : ℕ) → numberOn n m b x ≡ j → P (next n m b x)
-    by zero e = subst P (sym (next-accepted b x e)) (k e)
+    by zero e = subst P (sym (next-moved b x e)) (k e)
     by (suc j) e = subst P (sym (next-refused b x j e)) h
 
+  moved-board : (S c d : ℕ) (b : Board) → IsBoard n m b → IsBoard n m (moved n m S c d b)
+  unfolding addedAt raisedOver
+  moved-board S c d b h = record {
+    range = h .range;
+    weights = residues-table (h .range) _;
+    exponential = residues-table (h .range) _;
+    inverse = residues-table (h .range) _;
+  }
+
   pub next-board : (b : Board) (x : Change) → IsBoard n m b → IsBoard n m (next n m b x)
-  next-board b x h = next-keeps (IsBoard n m) b x h (λ e. changed-board x) where
-    changed-board : (x : Change) → IsBoard n m (changed n m b x)
-    changed-board (adds S c) = add-board S c b h
-    changed-board (takes S c) = add-board S (lacking m c) b h
+  next-board b x h = next-keeps (IsBoard n m) b x h (λ e. moved-board (place n m x) (amount n m x) (opposite n m x) b h)
 
   -- what holds of a fresh board, and is kept
   pub record Sound (b : Board) : Type 0 where
@@ -62,19 +71,31 @@ module _ (n m : ℕ) where
     pub first : at (b .weights) 0 ≡ 0
     pub is : exponentialTable n m (b .weights) ≡ b .exponential
 
-  add-sound : (S c : ℕ) (b : Board) → 0 < S → S < 2 ^ n → Sound b → Sound (boardAdd n m S c b)
-  add-sound S c b some code h = record {
-    board = add-board S c b (h .board);
-    first = added-first n m S c some (b .weights) (h .first);
-    is = exponential-raised n m S c some code (b .weights) ∙ ap (raisedOver n m S c) (h .is);
+  moved-sound : (S c d : ℕ) (b : Board) → IsMove n m S c d → Sound b → Sound (moved n m S c d b)
+  moved-sound S c d b k h = record {
+    board = moved-board S c d b (h .board);
+    first = added-first n m S c (k .some) (b .weights) (h .first);
+    is = exponential-raised n m S c (k .some) (k .code) (b .weights) ∙ ap (raisedOver n m S c) (h .is);
   }
 
-  changed-sound : (b : Board) (x : Change) → numberOn n m b x ≡ 0 → Sound b → Sound (changed n m b x)
-  changed-sound b (adds S c) e h = let a = change-accepted n m S c b e in add-sound S c b (a .some) (a .code) h
-  changed-sound b (takes S c) e h = let a = change-accepted n m S c b e in add-sound S (lacking m c) b (a .some) (a .code) h
+  next-sound : (b : Board) (x : Change) → Sound b → Sound (next n m b x)
+  next-sound b x h = next-keeps Sound b x h (λ e. moved-sound (place n m x) (amount n m x) (opposite n m x) b (is-move n m b x e) h)
 
-  pub next-sound : (b : Board) (x : Change) → Sound b → Sound (next n m b x)
-  next-sound b x h = next-keeps Sound b x h (λ e. changed-sound b x e h)
+  -- ---- the product of E and I
+
+  abbrev pub product : Board → List ℕ
+  product b = subsetTable n m (b .exponential) (b .inverse)
+
+  next-product : (b : Board) (x : Change) → IsBoard n m b → product (next n m b x) ≡ product b
+  next-product b x h = next-keeps (λ (c : Board). product c ≡ product b) b x refl (λ e.
+      let k = is-move n m b x e in
+      product-kept n m (place n m x) (amount n m x) (opposite n m x) (k .some) (k .code) (k .back) (b .exponential) (b .inverse) (h .inverse))
+
+  -- on any three accepted tables
+  pub run-product : (b : Board) (xs : List Change) → IsBoard n m b → product (run n m b xs) ≡ product b
+  unfolding run
+  run-product b [] h = refl
+  run-product b (x ∷ xs) h = run-product (next n m b x) xs (next-board b x h) ∙ next-product b x h
 
   -- ---- the weight at one set, with what is taken put back
 
@@ -123,7 +144,7 @@ module _ (n m : ℕ) where
 
   -- ---- lists
 
-  pub run-sound : (b : Board) (xs : List Change) → Sound b → Sound (run n m b xs)
+  run-sound : (b : Board) (xs : List Change) → Sound b → Sound (run n m b xs)
   unfolding run
   run-sound b [] h = h
   run-sound b (x ∷ xs) h = run-sound (next n m b x) xs (next-sound b x h)
@@ -133,16 +154,31 @@ module _ (n m : ℕ) where
     unfolding residues
     zeros-table = tabulate-ext (2 ^ n) _ _ (λ S h. zero-mod m)
 
+    fresh-unit : IsTable n m (tabulate (2 ^ n) unit)
+    fresh-unit = subst (IsTable n m) (unit-table n m (r .lowest)) (residues-table r unit)
+
     pub fresh-sound : Sound (freshBoard n)
     fresh-sound = record {
       board = record {
         range = r;
         weights = subst (IsTable n m) zeros-table (residues-table r (λ S. 0));
-        exponential = subst (IsTable n m) (unit-table n m (r .lowest)) (residues-table r unit);
+        exponential = fresh-unit;
+        inverse = fresh-unit;
       };
       first = at-tabulate (2 ^ n) (λ S. 0) 0 (pow-pos n);
       is = exponential-fresh n m (r .lowest);
     }
+
+    -- I is the inverse of E
+    run-inverse : (xs : List Change) → IsInverse n m (run n m (freshBoard n) xs .exponential) (run n m (freshBoard n) xs .inverse)
+    run-inverse xs =
+        let i : IsTable n m (run n m (freshBoard n) xs .inverse) = run-sound (freshBoard n) xs fresh-sound .board .inverse in
+        record {
+          long = i .size;
+          below = at-below m _ (λ S h. i .below S);
+          product = run-product (freshBoard n) xs (fresh-sound .board)
+              ∙ product-unit n m (tabulate (2 ^ n) unit) (fresh-unit .size) (λ S h. fresh-unit .below S);
+        }
 
     -- the law, for every list of changes
     pub board-law : (xs : List Change) → BoardLaw n m xs (run n m (freshBoard n) xs)
@@ -151,8 +187,10 @@ module _ (n m : ℕ) where
         record {
           weights-accepted = table-accepts n m _ r (s .board .weights);
           exponential-accepted = table-accepts n m _ r (s .board .exponential);
+          inverse-accepted = table-accepts n m _ r (s .board .inverse);
           first = s .first;
           exponential-is = sym (s .is);
+          inverse-is = run-inverse xs;
           weight-is = λ S h.
               let W : ℕ = at (run n m (freshBoard n) xs .weights) S in
               let t : ℕ = total n m (takesAt S) (freshBoard n) xs in
@@ -163,6 +201,22 @@ module _ (n m : ℕ) where
               sym (mod-eq-of-lt (s .board .weights .below S)) ∙ sym (mod-sub m (omega (arith, r .lowest)) W t)
               ∙ ap (λ (k : ℕ). (k + (m - t % m)) % m) same ∙ mod-add-mod a m (m - t % m);
         }
+
+    -- only this board meets it
+    pub law-determines : (xs : List Change) (b c : Board) → BoardLaw n m xs b → BoardLaw n m xs c → b ≡ c
+    law-determines xs b c h k = table-by-table weights exponential inverse where
+      weights : b .weights ≡ c .weights
+      weights =
+          sym (tabulate-self (2 ^ n) (b .weights) (table-accepted n m (b .weights) (h .weights-accepted) .1 .size))
+          ∙ tabulate-ext (2 ^ n) _ _ (λ S s. h .weight-is S s ∙ sym (k .weight-is S s))
+          ∙ tabulate-self (2 ^ n) (c .weights) (table-accepted n m (c .weights) (k .weights-accepted) .1 .size)
+
+      exponential : b .exponential ≡ c .exponential
+      exponential = h .exponential-is ∙ ap (exponentialTable n m) weights ∙ sym (k .exponential-is)
+
+      inverse : b .inverse ≡ c .inverse
+      inverse = inverse-unique n m (c .exponential) (b .inverse) (c .inverse)
+          (subst (λ (E : List ℕ). IsInverse n m E (b .inverse)) exponential (h .inverse-is)) (k .inverse-is)
 
     -- and the number of each change is its own
     pub fresh-numbers : (xs : List Change) → runNumbers n m (freshBoard n) xs ≡ map (ownNumber n m) xs

@@ -7,7 +7,7 @@ ghost use Rattle.definitions.specs.Partitions.{exponentialTable, compositionTab
 ghost use Rattle.definitions.specs.Projection.{projectionRow};
 ghost use Rattle.definitions.specs.Refusals.{sumNumber, binomialNumber, productNumber, xorNumber, exponentialNumber, logarithmNumber, compositionNumber, inverseNumber, projectionNumber};
 ghost use Rattle.definitions.specs.Refusals.{after, valueAfter, padAfter};
-ghost use Rattle.definitions.specs.Boards.{board, addedAt, raisedOver, lacking, freshBoard, freshNumber, changeNumber};
+ghost use Rattle.definitions.specs.Boards.{board, addedAt, raisedOver, loweredOver, lacking, freshBoard, freshNumber, changeNumber};
 ghost use Rattle.definitions.specs.Outcomes.{Outcome};
 ghost use Rattle.definitions.specs.Recipes.{Tree, sum, ReadAs, Choice, lettered, recipeNumber, recipeResult, recipePad};
 ghost use Rattle.definitions.specs.Files.{full, sparse, headerNumber, headerControls, headerModulus, packed, readerNumber, readerControls, readerModulus, tableRead, writerNumber, writtenCount, writtenBuffer};
@@ -178,12 +178,19 @@ pub extern "C" fn sps_projection(
 }
 
 #[no_mangle]
-pub extern "C" fn sps_board_fresh(n: u32, m: u32, a: &mut [u32], e: &mut [u32]) -> u32
-    ensures { λ r. ⌜ r ≡ freshNumber n m (board (now (a .entry)) (now (e .entry))) ⌝ }
+pub extern "C" fn sps_board_fresh(
+    n: u32,
+    m: u32,
+    a: &mut [u32],
+    e: &mut [u32],
+    i: &mut [u32],
+) -> u32
+    ensures { λ r. ⌜ r ≡ freshNumber n m (board (now (a .entry)) (now (e .entry)) (now (i .entry))) ⌝ }
     ensures { λ r. ⌜ now (a .exit) ≡ after r (freshBoard n .weights) (now (a .entry)) ⌝ }
     ensures { λ r. ⌜ now (e .exit) ≡ after r (freshBoard n .exponential) (now (e .entry)) ⌝ }
+    ensures { λ r. ⌜ now (i .exit) ≡ after r (freshBoard n .inverse) (now (i .entry)) ⌝ }
 {
-    board_calls::board_fresh(n, m, a, e)
+    board_calls::board_fresh(n, m, a, e, i)
 }
 
 #[no_mangle]
@@ -194,12 +201,14 @@ pub extern "C" fn sps_board_add(
     weight: u32,
     a: &mut [u32],
     e: &mut [u32],
+    i: &mut [u32],
 ) -> u32
-    ensures { λ r. ⌜ r ≡ changeNumber n m set weight (board (now (a .entry)) (now (e .entry))) ⌝ }
+    ensures { λ r. ⌜ r ≡ changeNumber n m set weight (board (now (a .entry)) (now (e .entry)) (now (i .entry))) ⌝ }
     ensures { λ r. ⌜ now (a .exit) ≡ after r (addedAt n m set weight (now (a .entry))) (now (a .entry)) ⌝ }
     ensures { λ r. ⌜ now (e .exit) ≡ after r (raisedOver n m set weight (now (e .entry))) (now (e .entry)) ⌝ }
+    ensures { λ r. ⌜ now (i .exit) ≡ after r (loweredOver n m set weight (now (i .entry))) (now (i .entry)) ⌝ }
 {
-    board_calls::board_add(n, m, set, weight, a, e)
+    board_calls::board_add(n, m, set, weight, a, e, i)
 }
 
 #[no_mangle]
@@ -210,12 +219,14 @@ pub extern "C" fn sps_board_take(
     weight: u32,
     a: &mut [u32],
     e: &mut [u32],
+    i: &mut [u32],
 ) -> u32
-    ensures { λ r. ⌜ r ≡ changeNumber n m set weight (board (now (a .entry)) (now (e .entry))) ⌝ }
+    ensures { λ r. ⌜ r ≡ changeNumber n m set weight (board (now (a .entry)) (now (e .entry)) (now (i .entry))) ⌝ }
     ensures { λ r. ⌜ now (a .exit) ≡ after r (addedAt n m set (lacking m weight) (now (a .entry))) (now (a .entry)) ⌝ }
     ensures { λ r. ⌜ now (e .exit) ≡ after r (raisedOver n m set (lacking m weight) (now (e .entry))) (now (e .entry)) ⌝ }
+    ensures { λ r. ⌜ now (i .exit) ≡ after r (raisedOver n m set weight (now (i .entry))) (now (i .entry)) ⌝ }
 {
-    board_calls::board_take(n, m, set, weight, a, e)
+    board_calls::board_take(n, m, set, weight, a, e, i)
 }
 
 #[no_mangle]

@@ -25,11 +25,12 @@ mod raw {
             result: *mut u32, result_len: usize, pad: *mut u32, pad_len: usize) -> u32;
         pub fn sps_projection(n: u32, m: u32, a: *const u32, a_len: usize, b: *const u32, b_len: usize,
             result: *mut u32, result_len: usize, pad: *mut u32, pad_len: usize) -> u32;
-        pub fn sps_board_fresh(n: u32, m: u32, a: *mut u32, a_len: usize, e: *mut u32, e_len: usize) -> u32;
+        pub fn sps_board_fresh(n: u32, m: u32,
+            a: *mut u32, a_len: usize, e: *mut u32, e_len: usize, i: *mut u32, i_len: usize) -> u32;
         pub fn sps_board_add(n: u32, m: u32, set: u32, weight: u32,
-            a: *mut u32, a_len: usize, e: *mut u32, e_len: usize) -> u32;
+            a: *mut u32, a_len: usize, e: *mut u32, e_len: usize, i: *mut u32, i_len: usize) -> u32;
         pub fn sps_board_take(n: u32, m: u32, set: u32, weight: u32,
-            a: *mut u32, a_len: usize, e: *mut u32, e_len: usize) -> u32;
+            a: *mut u32, a_len: usize, e: *mut u32, e_len: usize, i: *mut u32, i_len: usize) -> u32;
         pub fn sps_recipe(n: u32, m: u32, line: *const u8, line_len: usize, a: *const u32, a_len: usize,
             b: *const u32, b_len: usize, c: *const u32, c_len: usize, d: *const u32, d_len: usize,
             result: *mut u32, result_len: usize, pad: *mut u32, pad_len: usize) -> u32;
@@ -81,19 +82,27 @@ of_one_input!(exponential, sps_exponential);
 of_one_input!(logarithm, sps_logarithm);
 of_one_input!(inverse, sps_inverse);
 
-pub fn board_fresh(n: u32, m: u32, a: &mut [u32], e: &mut [u32]) -> u32 {
-    // Sound: as above.
-    unsafe { raw::sps_board_fresh(n, m, a.as_mut_ptr(), a.len(), e.as_mut_ptr(), e.len()) }
+/// Pointer and length of each.
+fn parts(tables: [&mut [u32]; 3]) -> [(*mut u32, usize); 3] {
+    tables.map(|table| (table.as_mut_ptr(), table.len()))
 }
 
-pub fn board_add(n: u32, m: u32, set: u32, weight: u32, a: &mut [u32], e: &mut [u32]) -> u32 {
+pub fn board_fresh(n: u32, m: u32, tables: [&mut [u32]; 3]) -> u32 {
+    let [a, e, i] = parts(tables);
     // Sound: as above.
-    unsafe { raw::sps_board_add(n, m, set, weight, a.as_mut_ptr(), a.len(), e.as_mut_ptr(), e.len()) }
+    unsafe { raw::sps_board_fresh(n, m, a.0, a.1, e.0, e.1, i.0, i.1) }
 }
 
-pub fn board_take(n: u32, m: u32, set: u32, weight: u32, a: &mut [u32], e: &mut [u32]) -> u32 {
+pub fn board_add(n: u32, m: u32, set: u32, weight: u32, tables: [&mut [u32]; 3]) -> u32 {
+    let [a, e, i] = parts(tables);
     // Sound: as above.
-    unsafe { raw::sps_board_take(n, m, set, weight, a.as_mut_ptr(), a.len(), e.as_mut_ptr(), e.len()) }
+    unsafe { raw::sps_board_add(n, m, set, weight, a.0, a.1, e.0, e.1, i.0, i.1) }
+}
+
+pub fn board_take(n: u32, m: u32, set: u32, weight: u32, tables: [&mut [u32]; 3]) -> u32 {
+    let [a, e, i] = parts(tables);
+    // Sound: as above.
+    unsafe { raw::sps_board_take(n, m, set, weight, a.0, a.1, e.0, e.1, i.0, i.1) }
 }
 
 pub fn recipe(n: u32, m: u32, line: &[u8], tables: [&[u32]; 4], result: &mut [u32], pad: &mut [u32]) -> u32 {

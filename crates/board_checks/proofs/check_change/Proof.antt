@@ -14,10 +14,10 @@ panel-word-requires c κs = search needs
 
 returns : tie.Need-returns
 unfolding changeNumber
-returns c = panel-refused (c .before .before .before .before .args .n) (c .before .panel-word .ensures) _ (c .if1 .taken)
+returns c = panel-refused (c .before .before .before .before .before .args .n) (c .before .panel-word .ensures) _ (c .if1 .taken)
 
 power-requires : tie.Need-power-requires
-power-requires c κs = panel-within (c .before .before .before .before .args .n) (c .before .panel-word .ensures) (c .if1 .left)
+power-requires c κs = panel-within (c .before .before .before .before .before .args .n) (c .before .panel-word .ensures) (c .if1 .left)
 
 length-word-requires : tie.Need-length-word-requires
 length-word-requires c κs = search needs
@@ -25,19 +25,25 @@ length-word-requires c κs = search needs
 length-word-requires-2 : tie.Need-length-word-requires-2
 length-word-requires-2 c κs = search needs
 
+length-word-requires-3 : tie.Need-length-word-requires-3
+length-word-requires-3 c κs = search needs
+
 empty-word-requires : tie.Need-empty-word-requires
 empty-word-requires c κs = search needs
 
 code-word-requires : tie.Need-code-word-requires
 code-word-requires c κs =
-    let there = c .before .before .before .before in
-    panel-within (there .before .before .before .before .args .n) (there .before .panel-word .ensures) (there .if1 .left)
+    let there = c .before .before .before .before .before in
+    panel-within (there .before .before .before .before .before .args .n) (there .before .panel-word .ensures) (there .if1 .left)
 
 entry-word-requires : tie.Need-entry-word-requires
 entry-word-requires c κs = search needs
 
 entry-word-requires-2 : tie.Need-entry-word-requires-2
 entry-word-requires-2 c κs = search needs
+
+entry-word-requires-3 : tie.Need-entry-word-requires-3
+entry-word-requires-3 c κs = search needs
 
 weight-word-requires : tie.Need-weight-word-requires
 weight-word-requires c κs = search needs
@@ -54,19 +60,21 @@ check-modulus-requires c κs = search needs
 returns-2 : tie.Need-returns-2
 unfolding changeNumber
 returns-2 c =
-    let there = c .before .before .before .before .before .before .before .before .before .before .before in
-    let s = there .before .before .before .before .args in
-    let long = c .before .before .before .before .before .before .before .before .before .before .power .ensures in
+    let there = c .before .before .before .before .before .before .before .before .before .before .before .before .before in
+    let s = there .before .before .before .before .before .args in
+    let long = c .before .before .before .before .before .before .before .before .before .before .before .before .power .ensures in
     past-panel (s .n) (there .before .panel-word .ensures) (there .if1 .left)
-    (these-words (changeWords (s .n) (s .m) (s .set) (s .weight) (board (now (s .a)) (now (s .e)))) (c .check-modulus .ensures)
+    (these-words (changeWords (s .n) (s .m) (s .set) (s .weight) (board (now (s .a)) (now (s .e)) (now (s .i)))) (c .check-modulus .ensures)
     (c .before .first-word .ensures
     ∙ ap firstWord
-    (table-length (s .n) (length (now (s .a))) (c .before .before .before .before .before .before .before .before .before .length-word .ensures) long
-    then table-length (s .n) (length (now (s .e))) (c .before .before .before .before .before .before .before .before .length-word2 .ensures) long
-    then c .before .before .before .before .before .before .before .empty-word .ensures
-    then c .before .before .before .before .before .before .code-word .ensures
-    then c .before .before .before .before .before .entry-word .ensures
-    then c .before .before .before .before .entry-word2 .ensures
+    (table-length (s .n) (length (now (s .a))) (c .before .before .before .before .before .before .before .before .before .before .before .length-word .ensures) long
+    then table-length (s .n) (length (now (s .e))) (c .before .before .before .before .before .before .before .before .before .before .length-word2 .ensures) long
+    then table-length (s .n) (length (now (s .i))) (c .before .before .before .before .before .before .before .before .before .length-word3 .ensures) long
+    then c .before .before .before .before .before .before .before .before .empty-word .ensures
+    then c .before .before .before .before .before .before .before .code-word .ensures
+    then c .before .before .before .before .before .before .entry-word .ensures
+    then c .before .before .before .before .before .entry-word2 .ensures
+    then c .before .before .before .before .entry-word3 .ensures
     then c .before .before .before .weight-word .ensures
     then no-more)))
 
@@ -79,10 +87,12 @@ check-change-spec =
     power-requires
     length-word-requires
     length-word-requires-2
+    length-word-requires-3
     empty-word-requires
     code-word-requires
     entry-word-requires
     entry-word-requires-2
+    entry-word-requires-3
     weight-word-requires
     slice-aggregate-first-word
     first-word-requires

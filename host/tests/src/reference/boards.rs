@@ -1,4 +1,4 @@
-//! Boards: a table of exercises and a table kept beside it.
+//! Boards: a table of exercises and two tables kept beside it.
 
 use super::refusals::MOST_CONTROLS;
 use super::{minus, plus, times};
@@ -7,6 +7,7 @@ use super::{minus, plus, times};
 pub struct Board {
     pub a: Vec<u32>,
     pub e: Vec<u32>,
+    pub i: Vec<u32>,
 }
 
 #[derive(Clone, Copy, Debug, PartialEq)]
@@ -23,27 +24,35 @@ pub struct Change {
     pub weight: u32,
 }
 
+/// A sum or a difference modulo m.
+type Join = fn(u32, u32, u32) -> u32;
+
+/// The table, with the entry of each set that contains the set joined with the weight times the old entry of that set without it.
+fn passed_on(table: &[u32], set: usize, weight: u32, m: u32, join: Join) -> Vec<u32> {
+    let entry = |all: usize| match all & set == set {
+        true => join(table[all], times(weight, table[all & !set], m), m),
+        false => table[all],
+    };
+    (0..table.len()).map(entry).collect()
+}
+
 impl Board {
     pub fn fresh(n: u32) -> Self {
         let (a, mut e) = (vec![0; 1 << n], vec![0; 1 << n]);
         e[0] = 1;
-        Board { a, e }
+        Board { a, i: e.clone(), e }
     }
 
     /// The board after an accepted change, from the old one.
-    pub fn changed(&self, m: u32, change: Change) -> Self {
-        let set = change.set as usize;
-        let weight = match change.kind {
-            Kind::Add => change.weight,
-            Kind::Take => minus(0, change.weight, m),
-        };
-        let raised = |all: usize| match all & set == set {
-            true => plus(self.e[all], times(weight, self.e[all & !set], m), m),
-            false => self.e[all],
+    pub fn changed(&self, m: u32, Change { kind, set, weight }: Change) -> Self {
+        let set = set as usize;
+        let (onto, off): (Join, Join) = match kind {
+            Kind::Add => (plus, minus),
+            Kind::Take => (minus, plus),
         };
         let mut a = self.a.clone();
-        a[set] = plus(a[set], weight, m);
-        Board { a, e: (0..self.e.len()).map(raised).collect() }
+        a[set] = onto(a[set], weight, m);
+        Board { a, e: passed_on(&self.e, set, weight, m, onto), i: passed_on(&self.i, set, weight, m, off) }
     }
 }
 
@@ -53,7 +62,7 @@ pub fn fresh_number(n: u32, m: u32, board: &Board) -> u32 {
         1
     } else if m < 2 {
         2
-    } else if board.a.len() != 1 << n || board.e.len() != 1 << n {
+    } else if [&board.a, &board.e, &board.i].iter().any(|table| table.len() != 1 << n) {
         3
     } else {
         0
@@ -65,7 +74,7 @@ pub fn change_number(n: u32, m: u32, change: Change, board: &Board) -> u32 {
     match fresh_number(n, m, board) {
         0 if change.set == 0 => 11,
         0 if u64::from(change.set) >= 1 << n => 12,
-        0 if board.a.iter().chain(&board.e).chain([&change.weight]).any(|&entry| entry >= m) => 5,
+        0 if board.a.iter().chain(&board.e).chain(&board.i).chain([&change.weight]).any(|&entry| entry >= m) => 5,
         number => number,
     }
 }
