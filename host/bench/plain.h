@@ -50,9 +50,9 @@ struct Below32 {
 
 // Work: 2 (n + 1) 2^n numbers, where it is asked for; no call clears it.
 
-// Duties of a call that are no part of its result: whether all entries of a table are below m, and a subset product's ceiling.
+// Duties of a call besides its result: whether all entries of a table are below m, and the ceiling of what a subset product made.
 bool all_below(u32 n, u32 m, const u32 *table);
-u32 returned_ceiling(u32 n, const u32 *a, const u32 *b);
+u32 ceiling(u32 n, const u32 *table);
 
 void binomial_product(u32 n, u32 m, const u32 *f, const u32 *g, u32 *result);
 

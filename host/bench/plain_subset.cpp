@@ -66,19 +66,14 @@ struct Ranked {
 // The ceiling of a table of zeros.
 constexpr u32 ceiling_of_zeros = 255;
 
-u32 ceiling(u32 n, const u32 *table) {
+}  // namespace
+
+u32 plain::ceiling(u32 n, const u32 *table) {
     u8 largest = 0;
     for (std::size_t set = 0; set < std::size_t{1} << n; set++) {
         largest = std::max(largest, table[set] ? sizes.of[set] : u8{0});
     }
     return largest || table[0] ? largest : ceiling_of_zeros;
-}
-
-}  // namespace
-
-u32 plain::returned_ceiling(u32 n, const u32 *a, const u32 *b) {
-    u32 left = ceiling(n, a), right = ceiling(n, b);
-    return left == ceiling_of_zeros || right == ceiling_of_zeros ? ceiling_of_zeros : std::min(n, left + right);
 }
 
 template <typename Form>

@@ -74,10 +74,9 @@ uint32_t sps_difference(uint32_t n, uint32_t m,
 
 /* ---- Products ----------------------------------------------------------------------------------------------------- */
 
-/* result[S] = sum of a[L] * b[R] over the disjoint L, R with union S.  Returns ceiling * 2^32 + number.  The ceiling of a
- * table is the largest size of a set whose entry is not 0, and 255 if every entry is 0.  The ceiling returned is 255 if
- * every entry of a or every entry of b is 0, else the smaller of n and the sum of the ceilings of a and b.  It bounds the
- * ceiling of a result that is not all 0.  Refusals 1 to 5.  Time 2^n * n^2: the unit that the costs below are given in. */
+/* result[S] = sum of a[L] * b[R] over the disjoint L, R with union S.  Returns ceiling * 2^32 + number.  The ceiling is
+ * that of the result: the largest size of a set whose entry there is not 0, and 255 if every entry there is 0.
+ * Refusals 1 to 5.  Time 2^n * n^2: the unit that the costs below are given in. */
 uint64_t sps_subset_product(uint32_t n, uint32_t m,
                             const uint32_t *a, size_t a_len,
                             const uint32_t *b, size_t b_len,

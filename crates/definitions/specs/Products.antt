@@ -1,8 +1,8 @@
 -- Sum, difference and the three products of tables of n controls. Each is a sum of natural numbers whose remainder by m is
 -- taken once, at the end.
-use mathlib.Core.Bool.{Bool, cond, not, _&&_}
+use mathlib.Core.Bool.{Bool, cond, not}
 use mathlib.Core.List.{List}
-use Prim.Native.Nat.{ℕ, _+_, _*_, _-_, _%_, _^_, min}
+use Prim.Native.Nat.{ℕ, _+_, _*_, _-_, _%_, _^_}
 use lib.Bits.{bitOr, bitXor}
 use lib.Dec.{eqb}
 use Rattle.definitions.specs.Sums.{sum, some, largest, tabulate, at}
@@ -47,11 +47,6 @@ abbrev pub degreeOfZeros : ℕ
 degreeOfZeros = 255
 
 -- 01's ceiling, as 02 changes it (the degree of the table): the largest size of a set with a nonzero entry, and 255 for a table
--- of zeros
+-- of zeros. 01's returned ceiling, what a subset product returns, is that of its result (02).
 unfoldable pub degree : ℕ → List ℕ → ℕ
 degree n A = cond (nonzero n A) (largest (2 ^ n) (λ S. cond (eqb (at A S) 0) 0 (size S))) degreeOfZeros
-
--- 01's returned ceiling of a subset product, as 02 changes it: the smaller of n and the sum of the two ceilings, or 255 if an
--- input is a table of zeros
-unfoldable pub degreeBound : ℕ → List ℕ → List ℕ → ℕ
-degreeBound n A B = cond (nonzero n A && nonzero n B) (min n (degree n A + degree n B)) degreeOfZeros

@@ -5,7 +5,7 @@ use Prim.Native.Nat.{ℕ}
 use lib.Count.{ones}
 use Rattle.definitions.specs.Sums.{sum, listSum, count, some, largest, tabulate, keep}
 use Rattle.definitions.specs.Sets.{inside, subsets}
-use Rattle.definitions.specs.Products.{residues, subsetSum, pairSum, subsetTable, unionTable, xorTable, nonzero, degree, degreeBound}
+use Rattle.definitions.specs.Products.{residues, subsetSum, pairSum, subsetTable, unionTable, xorTable, nonzero, degree}
 use Rattle.definitions.specs.Rows.{choose, binomialSum, binomialRow}
 use Rattle.definitions.specs.Partitions.{partitions, blockProduct, compositionSum, compositionTable, exponentialTable, allBelow, IsLogarithm, IsInverse}
 use Rattle.definitions.specs.Projection.{oneRow, wholeEntry, projectionEntry, projectionRow}
@@ -16,7 +16,7 @@ pub data Case : Type 0 where
   inverse exponential logarithm : (n m : ℕ) (A H : List ℕ) → Case
   composition : (n m : ℕ) (A f H : List ℕ) → Case
   binomial : (n m : ℕ) (f g h : List ℕ) → Case
-  ceiling : (n : ℕ) (A B : List ℕ) (c : ℕ) → Case
+  ceiling : (n m : ℕ) (A B : List ℕ) (c : ℕ) → Case
   ceilingOf : (n : ℕ) (A : List ℕ) (c : ℕ) → Case
   projection : (n m : ℕ) (A B h : List ℕ) → Case
 
@@ -30,7 +30,7 @@ Holds (exponential n m A H) = exponentialTable n m A ≡ H
 Holds (logarithm n m E H) = IsLogarithm n m E H
 Holds (composition n m A f H) = compositionTable n m f A ≡ H
 Holds (binomial n m f g h) = binomialRow n m f g ≡ h
-Holds (ceiling n A B c) = degreeBound n A B ≡ c
+Holds (ceiling n m A B c) = degree n (subsetTable n m A B) ≡ c
 Holds (ceilingOf n A c) = degree n A ≡ c
 Holds (projection n m A B h) = projectionRow n m A B ≡ h
 
@@ -48,7 +48,7 @@ Q = 5 ∷ 6 ∷ 7 ∷ 8 ∷ []
 abbrev pub R : List ℕ
 R = 0 ∷ 2 ∷ 3 ∷ 4 ∷ []
 
--- 01's twelve, in its order; the last has a table and a ceiling
+-- 01's twelve, in its order; the last has a table and a ceiling, the latter as 02 changes it
 abbrev pub cases : List Case
 cases =
     subset 2 101 P Q (5 ∷ 16 ∷ 22 ∷ 60 ∷ [])
@@ -63,11 +63,11 @@ cases =
     ∷ exponential 2 2 (0 ∷ 1 ∷ 1 ∷ 1 ∷ []) (1 ∷ 1 ∷ 1 ∷ 0 ∷ [])
     ∷ subset 0 5 (3 ∷ []) (4 ∷ []) (2 ∷ [])
     ∷ subset 2 101 (0 ∷ 2 ∷ 0 ∷ 0 ∷ []) (0 ∷ 3 ∷ 0 ∷ 0 ∷ []) (0 ∷ 0 ∷ 0 ∷ 0 ∷ [])
-    ∷ ceiling 2 (0 ∷ 2 ∷ 0 ∷ 0 ∷ []) (0 ∷ 3 ∷ 0 ∷ 0 ∷ []) 2
+    ∷ ceiling 2 101 (0 ∷ 2 ∷ 0 ∷ 0 ∷ []) (0 ∷ 3 ∷ 0 ∷ 0 ∷ []) 255
     ∷ []
 
 pub worked : AllHold cases
-unfolding residues tabulate subsetSum pairSum sum inside binomialRow binomialSum choose count compositionSum listSum partitions subsets keep blockProduct allBelow nonzero some degree degreeBound largest flatMap ones
+unfolding residues tabulate subsetSum pairSum sum inside binomialRow binomialSum choose count compositionSum listSum partitions subsets keep blockProduct allBelow nonzero some degree largest flatMap ones
 worked = (
   refl,
   (
@@ -103,8 +103,9 @@ pub worked-projections : AllHold projections
 unfolding residues tabulate subsetSum sum inside compositionSum listSum partitions subsets keep blockProduct flatMap oneRow wholeEntry projectionEntry projectionRow
 worked-projections = (refl, (refl, (refl, (refl, (refl, tt)))))
 
--- A table of zeros is told from one whose only nonzero entry is the empty set's, and one such input is enough for 255. Else the sum
--- rule stays, also where the product is a table of zeros, as in 01's last case: there the number is no bound.
+-- A table of zeros is told from one whose only nonzero entry is the empty set's. The ceiling of a subset product is not known from
+-- those of its factors: their sets can overlap, and products of entries and sums of these can be 0 under m. The last is of P and its
+-- inverse.
 abbrev pub ceilings : List Case
 ceilings =
     ceilingOf 2 (0 ∷ 0 ∷ 0 ∷ 0 ∷ []) 255
@@ -113,19 +114,26 @@ ceilings =
     ∷ ceilingOf 0 (3 ∷ []) 0
     ∷ ceilingOf 2 (0 ∷ 0 ∷ 3 ∷ 0 ∷ []) 1
     ∷ ceilingOf 2 P 2
-    ∷ ceiling 2 (0 ∷ 0 ∷ 0 ∷ 0 ∷ []) (0 ∷ 0 ∷ 0 ∷ 0 ∷ []) 255
-    ∷ ceiling 2 (0 ∷ 0 ∷ 0 ∷ 0 ∷ []) P 255
-    ∷ ceiling 2 P (0 ∷ 0 ∷ 0 ∷ 0 ∷ []) 255
-    ∷ ceiling 0 (0 ∷ []) (4 ∷ []) 255
-    ∷ ceiling 2 (1 ∷ 0 ∷ 0 ∷ 0 ∷ []) (1 ∷ 0 ∷ 0 ∷ 0 ∷ []) 0
-    ∷ ceiling 0 (3 ∷ []) (4 ∷ []) 0
-    ∷ ceiling 2 P (1 ∷ 0 ∷ 0 ∷ 0 ∷ []) 2
-    ∷ ceiling 2 P P 2
-    ∷ ceiling 3 (0 ∷ 4 ∷ 0 ∷ 0 ∷ 0 ∷ 0 ∷ 0 ∷ 0 ∷ []) (0 ∷ 0 ∷ 5 ∷ 0 ∷ 0 ∷ 0 ∷ 0 ∷ 0 ∷ []) 2
-    ∷ subset 0 6 (2 ∷ []) (3 ∷ []) (0 ∷ [])
-    ∷ ceiling 0 (2 ∷ []) (3 ∷ []) 0
+    ∷ ceilingOf 1 (0 ∷ 1 ∷ []) 1
+    ∷ ceilingOf 3 (0 ∷ 0 ∷ 0 ∷ 0 ∷ 0 ∷ 0 ∷ 0 ∷ 1 ∷ []) 3
+    ∷ ceilingOf 4 (0 ∷ 0 ∷ 0 ∷ 0 ∷ 0 ∷ 0 ∷ 0 ∷ 0 ∷ 0 ∷ 0 ∷ 0 ∷ 0 ∷ 0 ∷ 0 ∷ 0 ∷ 1 ∷ []) 4
+    ∷ ceiling 2 101 (0 ∷ 0 ∷ 0 ∷ 0 ∷ []) (0 ∷ 0 ∷ 0 ∷ 0 ∷ []) 255
+    ∷ ceiling 2 101 (0 ∷ 0 ∷ 0 ∷ 0 ∷ []) P 255
+    ∷ ceiling 2 101 P (0 ∷ 0 ∷ 0 ∷ 0 ∷ []) 255
+    ∷ ceiling 0 5 (0 ∷ []) (4 ∷ []) 255
+    ∷ ceiling 2 101 (1 ∷ 0 ∷ 0 ∷ 0 ∷ []) (1 ∷ 0 ∷ 0 ∷ 0 ∷ []) 0
+    ∷ ceiling 1 101 (1 ∷ 0 ∷ []) (1 ∷ 0 ∷ []) 0
+    ∷ ceiling 0 5 (3 ∷ []) (4 ∷ []) 0
+    ∷ ceiling 2 101 P (1 ∷ 0 ∷ 0 ∷ 0 ∷ []) 2
+    ∷ ceiling 2 101 P P 2
+    ∷ ceiling 3 101 (0 ∷ 4 ∷ 0 ∷ 0 ∷ 0 ∷ 0 ∷ 0 ∷ 0 ∷ []) (0 ∷ 0 ∷ 5 ∷ 0 ∷ 0 ∷ 0 ∷ 0 ∷ 0 ∷ []) 2
+    ∷ ceiling 3 101 (0 ∷ 0 ∷ 0 ∷ 4 ∷ 0 ∷ 0 ∷ 0 ∷ 0 ∷ []) (0 ∷ 0 ∷ 0 ∷ 0 ∷ 5 ∷ 0 ∷ 0 ∷ 0 ∷ []) 3
+    ∷ ceiling 0 6 (2 ∷ []) (3 ∷ []) 255
+    ∷ ceiling 2 101 (0 ∷ 2 ∷ 3 ∷ 0 ∷ []) (0 ∷ 2 ∷ 98 ∷ 0 ∷ []) 255
+    ∷ ceiling 2 6 (1 ∷ 0 ∷ 2 ∷ 0 ∷ []) (1 ∷ 3 ∷ 0 ∷ 0 ∷ []) 1
+    ∷ ceiling 2 101 P (1 ∷ 99 ∷ 98 ∷ 8 ∷ []) 0
     ∷ []
 
 pub worked-ceilings : AllHold ceilings
-unfolding residues tabulate subsetSum sum inside nonzero some degree degreeBound largest ones
-worked-ceilings = (refl, (refl, (refl, (refl, (refl, (refl, (refl, (refl, (refl, (refl, (refl, (refl, (refl, (refl, (refl, (refl, (refl, tt)))))))))))))))))
+unfolding residues tabulate subsetSum sum inside nonzero some degree largest ones
+worked-ceilings = (refl, (refl, (refl, (refl, (refl, (refl, (refl, (refl, (refl, (refl, (refl, (refl, (refl, (refl, (refl, (refl, (refl, (refl, (refl, (refl, (refl, (refl, (refl, (refl, tt))))))))))))))))))))))))

@@ -1,11 +1,9 @@
-// The degree of a table (01: its ceiling), and the bound on the degree of a product (01: returned ceiling).
+// The degree of a table (01: its ceiling).
 ghost use mathlib.Core.Path.{_≡_};
-ghost use mathlib.Core.Bool.{_||_};
 ghost use Prim.Native.Nat.{_+_, _^_, _≤_, max};
-ghost use lib.Dec.{eqb};
 ghost use lib.ListN.{length};
 ghost use Rattle.definitions.specs.Limits.{mostControls};
-ghost use Rattle.definitions.specs.Products.{degreeOfZeros, degree, degreeBound};
+ghost use Rattle.definitions.specs.Products.{degree};
 ghost use Rattle.degrees.specs.Parts.{counted, partDegree};
 use pads::power_of_two;
 use sets::SetSize;
@@ -57,9 +55,9 @@ fn degree_of_part(q: usize, d: SetSize, largest: SetSize, a: &[u32]) -> SetSize
     }
 }
 
-// The degree of a table (01: its ceiling). A part with no nonzero entry counts for 0, and so does the empty set: if nothing
-// larger is found, the empty set's entry tells whether the table is one of zeros.
-fn degree(n: u32, a: &[u32]) -> u32
+// The degree of a table. A part with no nonzero entry counts for 0, and so does the empty set: if nothing larger is found,
+// the empty set's entry tells whether the table is one of zeros.
+pub fn degree(n: u32, a: &[u32]) -> u32
     requires { ⌜ (n ≤ mostControls) × (length (now a) ≡ 2 ^ n) ⌝ }
     ensures { λ r. ⌜ r ≡ degree n (now (a .entry)) ⌝ }
 {
@@ -68,29 +66,5 @@ fn degree(n: u32, a: &[u32]) -> u32
         DEGREE_OF_ZEROS
     } else {
         largest.0 as u32
-    }
-}
-
-// Whether one of two degrees is that of a table of zeros.
-fn either_zeros(left: u32, right: u32) -> bool
-    ensures { λ r. ⌜ r ≡ (eqb left degreeOfZeros || eqb right degreeOfZeros) ⌝ }
-{
-    left == DEGREE_OF_ZEROS || right == DEGREE_OF_ZEROS
-}
-
-// The smaller of n and the sum of the degrees; 255 if a or b is a table of zeros.
-pub fn degree_bound(n: u32, a: &[u32], b: &[u32]) -> u32
-    requires { ⌜ (n ≤ mostControls) × (length (now a) ≡ 2 ^ n) × (length (now b) ≡ 2 ^ n) ⌝ }
-    ensures { λ r. ⌜ r ≡ degreeBound n (now (a .entry)) (now (b .entry)) ⌝ }
-{
-    let left = degree(n, a);
-    let right = degree(n, b);
-    let both = left + right;
-    if either_zeros(left, right) {
-        DEGREE_OF_ZEROS
-    } else if both < n {
-        both
-    } else {
-        n
     }
 }

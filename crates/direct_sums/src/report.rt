@@ -19,27 +19,12 @@ fn entries(line: &[u8], a: &[u32], b: &[u32], result: &[u32]) {
     text(b" differ");
 }
 
-// The smaller of n and a + b; 255, the ceiling of a table of zeros, if a or b is.
-fn bound(n: u32, a: u32, b: u32) -> u32 {
-    if a == plain_sums::CEILING_OF_ZEROS || b == plain_sums::CEILING_OF_ZEROS {
-        plain_sums::CEILING_OF_ZEROS
-    } else if n <= a {
-        n
-    } else if n - a <= b {
-        n
-    } else {
-        a + b
-    }
-}
-
-// Only the subset product has one.
-fn ceiling(line: &[u8], returned: u64, a: &[u32], b: &[u32]) {
+// Only the subset product returns one, that of its result.
+fn ceiling(line: &[u8], returned: u64, result: &[u32]) {
     if lines::call(line) == b's' {
-        let n = lines::controls(line);
         text(b", ceiling ");
         lines::long_number(returned >> 32);
-        let size = bound(n, plain_sums::ceiling(a), plain_sums::ceiling(b));
-        labelled(b" (directly ", size);
+        labelled(b" (directly ", plain_sums::ceiling(result));
         lines::mark(b')');
     }
 }
@@ -47,7 +32,7 @@ fn ceiling(line: &[u8], returned: u64, a: &[u32], b: &[u32]) {
 pub fn comparison(line: &[u8], returned: u64, a: &[u32], b: &[u32], result: &[u32]) {
     subject(line);
     entries(line, a, b, result);
-    ceiling(line, returned, a, b);
+    ceiling(line, returned, result);
     text(b", number ");
     lines::long_number(returned & 4294967295);
 }

@@ -5,7 +5,6 @@ mod partitions;
 mod random;
 mod words;
 
-pub use numbers::CEILING_OF_ZEROS;
 pub use numbers::ceiling;
 pub use numbers::differing;
 pub use random::fill_from;

@@ -2,7 +2,7 @@
 ghost use mathlib.Core.Path.{_≡_};
 
 // 02's ceiling of a table of zeros.
-pub const CEILING_OF_ZEROS: u32 = 255;
+const CEILING_OF_ZEROS: u32 = 255;
 
 fn wide(x: u32) -> u64
     ensures { λ r. ⌜ r ≡ x ⌝ }

@@ -1,7 +1,7 @@
 // The calls as C functions, each with the contract of the call itself. A slice is a pointer and a length.
 ghost use mathlib.Core.Path.{_≡_};
 ghost use lib.ListN.{length};
-ghost use Rattle.definitions.specs.Products.{sumTable, differenceTable, subsetTable, unionTable, xorTable, degreeBound};
+ghost use Rattle.definitions.specs.Products.{sumTable, differenceTable, subsetTable, unionTable, xorTable, degree};
 ghost use Rattle.definitions.specs.Rows.{binomialRow};
 ghost use Rattle.definitions.specs.Partitions.{exponentialTable, compositionTable, IsLogarithm, IsInverse};
 ghost use Rattle.definitions.specs.Projection.{projectionRow};
@@ -62,7 +62,7 @@ pub extern "C" fn sps_subset_product(
     result: &mut [u32],
     pad: &mut [u32],
 ) -> u64
-    ensures { λ r. ⌜ r ≡ withNumber (valueAfter (productNumber n m (now (a .entry)) (now (b .entry)) (length (now (result .entry))) (length (now (pad .entry)))) (degreeBound n (now (a .entry)) (now (b .entry))))
+    ensures { λ r. ⌜ r ≡ withNumber (valueAfter (productNumber n m (now (a .entry)) (now (b .entry)) (length (now (result .entry))) (length (now (pad .entry)))) (degree n (subsetTable n m (now (a .entry)) (now (b .entry)))))
         (productNumber n m (now (a .entry)) (now (b .entry)) (length (now (result .entry))) (length (now (pad .entry)))) ⌝ }
     ensures { λ _. ⌜ now (result .exit) ≡ after (productNumber n m (now (a .entry)) (now (b .entry)) (length (now (result .entry))) (length (now (pad .entry))))
         (subsetTable n m (now (a .entry)) (now (b .entry))) (now (result .entry)) ⌝ }

@@ -1,14 +1,15 @@
-// 01's subset product of two tables, with the bound on its degree (01: returned ceiling).
+// 01's subset product of two tables, with its degree (01: returned ceiling).
 ghost use mathlib.Core.Path.{_≡_};
 ghost use lib.ListN.{length};
-ghost use Rattle.definitions.specs.Products.{subsetTable, degreeBound};
+ghost use Rattle.definitions.specs.Products.{subsetTable, degree};
 ghost use Rattle.definitions.specs.Refusals.{productNumber, after, valueAfter, padAfter};
 use checks::Checked;
-use degrees::degree_bound;
+use degrees::degree;
 
 pub struct Product {
     // 0, or 01's number of the refusal
     pub number: u32,
+    // the degree of the result; 0 beside a refusal
     pub ceiling: u32,
 }
 
@@ -22,7 +23,7 @@ pub fn subset_product(
     pad: &mut [u32],
 ) -> Product
     ensures { λ r. ⌜ r .number ≡ productNumber n m (now (a .entry)) (now (b .entry)) (length (now (result .entry))) (length (now (pad .entry))) ⌝ }
-    ensures { λ r. ⌜ r .ceiling ≡ valueAfter (r .number) (degreeBound n (now (a .entry)) (now (b .entry))) ⌝ }
+    ensures { λ r. ⌜ r .ceiling ≡ valueAfter (r .number) (degree n (subsetTable n m (now (a .entry)) (now (b .entry)))) ⌝ }
     ensures { λ r. ⌜ now (result .exit) ≡ after (r .number) (subsetTable n m (now (a .entry)) (now (b .entry))) (now (result .entry)) ⌝ }
     ensures { λ r. ⌜ now (pad .exit) ≡ padAfter (r .number) n (now (pad .entry)) ⌝ }
 {
@@ -33,7 +34,7 @@ pub fn subset_product(
             checks::clear(used, pad);
             Product {
                 number: 0,
-                ceiling: degree_bound(n, a, b),
+                ceiling: degree(n, result),
             }
         }
         Checked::Refused(word) => Product {

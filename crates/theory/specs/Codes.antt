@@ -3,8 +3,8 @@
 --   by-top                               a code below 2 ^ suc n has control n or not
 --   and-hh, and-lh, and-hl, inside-.., or-.., xor-..    of codes with (h) and without (l) the top control
 --   size-top, size-le                    sizes; size-zero, size-none: 0 is the size of the empty set, and of no other
---   apart-rest, size-rest                S without L, for L inside S
-use mathlib.Core.Path.{_≡_, refl, sym, ap, ap₂, _∙_, subst}
+--   apart-rest                           S without L, for L inside S
+use mathlib.Core.Path.{_≡_, refl, sym, ap, _∙_, subst}
 use mathlib.Core.Bool.{false}
 use mathlib.Core.Logic.{⊎-elim}
 use Prim.Native.Nat.{ℕ, suc, _+_, _*_, _-_, _/_, _%_, _^_, _<_, _≤_, min}
@@ -113,17 +113,10 @@ rest-odd L S e = omega (arith, and-odd L S, and-le-r L S)
 half-inside : (L S : ℕ) → bitAnd L S ≡ L → bitAnd (L / 2) (S / 2) ≡ L / 2
 half-inside L S e = sym (and-half L S) ∙ ap (λ (x : ℕ). x / 2) e
 
--- L and S without L have nothing in common, and their sizes add up
+-- L and S without L have nothing in common
 pub apart-rest : (L S : ℕ) → bitAnd L S ≡ L → bitAnd L (S - L) ≡ 0
 apart-rest = bin-ind (λ (L : ℕ). (S : ℕ) → bitAnd L S ≡ L → bitAnd L (S - L) ≡ 0) (λ S e. refl)
     (λ L ih S e.
     let z : bitAnd (L / 2) ((S - L) / 2) ≡ 0 = rw (rest-half L S e) (ih (S / 2) (half-inside L S e)) in
     let bits : bitAnd L (S - L) ≡ bitAnd (L / 2) ((S - L) / 2) * 2 + min (L % 2) ((S - L) % 2) = and-step L (S - L) in
     omega (arith, rest-odd L S e))
-
-pub size-rest : (L S : ℕ) → bitAnd L S ≡ L → size L + size (S - L) ≡ size S
-size-rest = bin-ind (λ (L : ℕ). (S : ℕ) → bitAnd L S ≡ L → size L + size (S - L) ≡ size S)
-    (λ S e. ap₂ _+_ size-zero (ap ones (omega arith)) ∙ zero-add (ones S))
-    (λ L ih S e.
-    let h : size (L / 2) + size ((S - L) / 2) ≡ size (S / 2) = rw (rest-half L S e) (ih (S / 2) (half-inside L S e)) in
-    omega (arith, ones-step L, ones-step S, ones-step (S - L), rest-odd L S e))

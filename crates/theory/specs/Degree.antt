@@ -3,28 +3,24 @@
 --   degree-zeros, degree-nonzero        255, or the largest size; degree-tells: so, of a panel that is not refused, 255 tells
 --                                       a table of zeros from all others
 --   degree-at, degree-least             of a nonzero table it is the least bound on those sizes; degree-most: at most n
---   product-zeros                       a subset product with a table of zeros is one
---   size-bound, degree-product          the bound that the call returns: on the size of each set with a nonzero entry in the
---                                       subset product, so on its degree if it is nonzero
---   zeros-returned                      where that is 255, the subset product is a table of zeros (of a panel that is not refused)
+--   product-zeros                       a subset product with a table of zeros has degree 255
 use mathlib.Core.Path.{_≡_, refl, ap, _∙_}
-use mathlib.Core.Bool.{Bool, true, false, true≢false, cond, not, _&&_}
+use mathlib.Core.Bool.{Bool, true, false, cond, not, _&&_}
 use mathlib.Core.List.{List}
-use mathlib.Core.Logic.{_≢_, ⊎-elim}
-use Prim.Native.Nat.{ℕ, _+_, _*_, _-_, _%_, _^_, _<_, _≤_, min}
+use mathlib.Core.Logic.{_≢_}
+use Prim.Native.Nat.{ℕ, _*_, _-_, _%_, _^_, _<_, _≤_}
 use native.Mathlib.Nat.{zero-mod, zero-mul, mul-zero}
 use native.Mathlib.Omega.{arith}
 use native.Mathlib.Decide.{ℕ-discrete}
-use lib.Bits.{bitAnd, and-le-r}
 use lib.Dec.{eqb}
 use borrow.Author.Tests.{eqb-true, not-false, eq-eqb, ne-eqb}
 use Rattle.definitions.specs.Sums.{at, largest}
 use Rattle.definitions.specs.Sets.{size, inside}
-use Rattle.definitions.specs.Products.{subsetSum, subsetTable, nonzero, degreeOfZeros, degree, degreeBound}
-use Rattle.theory.specs.Tests.{guard-ext, guard-zero, below-or}
+use Rattle.definitions.specs.Products.{subsetSum, subsetTable, nonzero, degreeOfZeros, degree}
+use Rattle.theory.specs.Tests.{guard-zero}
 use Rattle.theory.specs.Sums.{sum-zero, some-found, some-none, none-some, le-largest, largest-le}
 use Rattle.theory.specs.Lists.{at-residues}
-use Rattle.theory.specs.Codes.{inside→eq, size-le, size-rest}
+use Rattle.theory.specs.Codes.{size-le}
 
 -- ---- tables of zeros
 
@@ -75,50 +71,13 @@ degree-tells n A few = tells (nonzero n A) refl where
 
 -- ---- the subset product
 
-module _ (n m : ℕ) (A B : List ℕ) where
-  -- an entry of the product is 0 if no L inside S has both A[L] and B[S without L] nonzero
-  entry-zero : (S : ℕ) → S < 2 ^ n → ((L : ℕ) → bitAnd L S ≡ L → L ≤ S → at A L ≢ 0 → at B (S - L) ≢ 0 → ⊥) → at (subsetTable n m A B) S ≡ 0
-  unfolding subsetSum
-  entry-zero S h none =
-      at-residues n m _ S h
-      ∙ ap (λ (x : ℕ). x % m) (sum-zero (2 ^ n) _ (λ L l. guard-ext (inside L S) _ 0 (λ t. term L (inside→eq L S t)) ∙ guard-zero (inside L S)))
-      ∙ zero-mod m where
-        term : (L : ℕ) → bitAnd L S ≡ L → at A L * at B (S - L) ≡ 0
-        term L e = elim (ℕ-discrete (at A L) 0) [
-          | yes a ↦ rw a (zero-mul _)
-          | no a ↦ elim (ℕ-discrete (at B (S - L)) 0) [
-            | yes b ↦ rw b (mul-zero _)
-            | no b ↦ absurd (none L e (omega (arith, and-le-r L S)) a b)
-          ]
-        ]
-
-  pub product-zeros : (nonzero n A && nonzero n B) ≡ false → nonzero n (subsetTable n m A B) ≡ false
-  product-zeros e = zeros-are n (subsetTable n m A B) (λ S h. entry-zero S h (λ L i l a b.
-      true≢false (rw (nonzero-at n A L (omega arith) a, nonzero-at n B (S - L) (omega arith) b) at e)))
-
-  -- two sets that are small enough for both entries to count are not enough for a large set
-  large-zero : (S : ℕ) → S < 2 ^ n → degree n A + degree n B < size S → at (subsetTable n m A B) S ≡ 0
-  large-zero S h k = entry-zero S h (λ L i l a b.
-      omega (arith, degree-at n A L (omega arith) a, degree-at n B (S - L) (omega arith) b, size-rest L S i))
-
-  pub size-bound : (S : ℕ) → S < 2 ^ n → at (subsetTable n m A B) S ≢ 0 → size S ≤ degreeBound n A B
-  unfolding degreeBound
-  size-bound S h d = bounded (nonzero n A && nonzero n B) refl where
-    bounded : (b : Bool) → (nonzero n A && nonzero n B) ≡ b → size S ≤ cond b (min n (degree n A + degree n B)) degreeOfZeros
-    bounded true e =
-        ⊎-elim
-        (λ (k : degree n A + degree n B < size S). absurd (d (large-zero S h k)))
-        (λ (k : size S ≤ degree n A + degree n B). omega (arith, size-le n S h))
-        (below-or (degree n A + degree n B) (size S))
-    bounded false e = absurd (d (zeros-at n (subsetTable n m A B) (product-zeros e) S h))
-
-  pub degree-product : nonzero n (subsetTable n m A B) ≡ true → degree n (subsetTable n m A B) ≤ degreeBound n A B
-  degree-product some = degree-least n (subsetTable n m A B) (degreeBound n A B) some size-bound
-
-  -- of a panel that is not refused, the call returns 255 only if its result is a table of zeros
-  pub zeros-returned : n < degreeOfZeros → degreeBound n A B ≡ degreeOfZeros → nonzero n (subsetTable n m A B) ≡ false
-  unfolding degreeBound
-  zeros-returned few e = product-zeros (which (nonzero n A && nonzero n B) refl) where
-    which : (b : Bool) → (nonzero n A && nonzero n B) ≡ b → b ≡ false
-    which false f = refl
-    which true f = absurd (omega (arith, rw f at e))
+-- 02: one with a table of zeros has ceiling 255
+pub product-zeros : (n m : ℕ) (A B : List ℕ) → (nonzero n A && nonzero n B) ≡ false → degree n (subsetTable n m A B) ≡ degreeOfZeros
+unfolding subsetSum
+product-zeros n m A B e = degree-zeros n (subsetTable n m A B) (zeros-are n (subsetTable n m A B) (λ S h.
+    at-residues n m _ S h
+    ∙ ap (λ (x : ℕ). x % m) (sum-zero (2 ^ n) _ (λ L l. rw (term S h L l (nonzero n A) refl) (guard-zero (inside L S))))
+    ∙ zero-mod m)) where
+      term : (S : ℕ) → S < 2 ^ n → (L : ℕ) → L < 2 ^ n → (b : Bool) → nonzero n A ≡ b → at A L * at B (S - L) ≡ 0
+      term S h L l false a = rw (zeros-at n A a L l) (zero-mul _)
+      term S h L l true a = rw (zeros-at n B (rw a at e) (S - L) (omega arith)) (mul-zero _)

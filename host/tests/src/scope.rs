@@ -24,7 +24,7 @@ fn gives(call: Call, m: u32, inputs: &[&[u32]], expected: &[u32]) -> u32 {
 fn entries_1_11_12_subset_product() {
     gives(Call::SubsetProduct, 101, &[&P, &Q], &[5, 16, 22, 60]);
     gives(Call::SubsetProduct, 5, &[&[3], &[4]], &[2]);
-    assert_eq!(gives(Call::SubsetProduct, 101, &[&[0, 2, 0, 0], &[0, 3, 0, 0]], &[0; 4]), 2);
+    assert_eq!(gives(Call::SubsetProduct, 101, &[&[0, 2, 0, 0], &[0, 3, 0, 0]], &[0; 4]), 255);
 }
 
 #[test]
@@ -77,15 +77,15 @@ fn projection() {
 /// Ranks cut too short leave overlapping pairs in; a ceiling of n every time is no ceiling.
 #[test]
 fn slips_of_the_subset_product() {
-    assert_eq!(gives(Call::SubsetProduct, 101, &[&[0, 1, 0, 0], &[0, 1, 0, 0]], &[0; 4]), 2);
+    assert_eq!(gives(Call::SubsetProduct, 101, &[&[0, 1, 0, 0], &[0, 1, 0, 0]], &[0; 4]), 255);
     assert_eq!(gives(Call::SubsetProduct, 101, &[&[1, 0], &[1, 0]], &[1, 0]), 0);
     assert_eq!(gives(Call::SubsetProduct, 101, &[&P, &P], &[1, 4, 6, 20]), 2);
 }
 
-/// One table of zeros is enough for 255. A table with only the empty set's entry is not one. If neither input is, the sum rule
-/// stays, also where the product is a table of zeros.
+/// The ceiling is that of the product: 255 if it is all zeros, whether an input is or not, and smaller where the entries of the
+/// largest sets cancel under m. The last is of P and its inverse.
 #[test]
-fn no_session_at_all() {
+fn ceiling_of_the_product() {
     let ceiling = |m, a: &[u32], b: &[u32], expected: &[u32]| gives(Call::SubsetProduct, m, &[a, b], expected);
     assert_eq!(ceiling(101, &[0; 4], &[0; 4], &[0; 4]), 255);
     assert_eq!(ceiling(101, &[0; 4], &P, &[0; 4]), 255);
@@ -95,13 +95,16 @@ fn no_session_at_all() {
     assert_eq!(ceiling(5, &[0], &[0], &[0]), 255);
     assert_eq!(ceiling(101, &[1, 0, 0, 0], &[1, 0, 0, 0], &[1, 0, 0, 0]), 0);
     assert_eq!(ceiling(101, &[0, 4, 0, 0, 0, 0, 0, 0], &[0, 0, 5, 0, 0, 0, 0, 0], &[0, 0, 0, 20, 0, 0, 0, 0]), 2);
-    assert_eq!(ceiling(6, &[2], &[3], &[0]), 0);
-    assert_eq!(ceiling(6, &[0, 2], &[3, 0], &[0, 0]), 1);
+    assert_eq!(ceiling(6, &[2], &[3], &[0]), 255);
+    assert_eq!(ceiling(6, &[0, 2], &[3, 0], &[0, 0]), 255);
+    assert_eq!(ceiling(101, &[0, 2, 3, 0], &[0, 2, 98, 0], &[0; 4]), 255);
+    assert_eq!(ceiling(6, &[1, 0, 2, 0], &[1, 3, 0, 0], &[1, 3, 2, 0]), 1);
+    assert_eq!(ceiling(101, &P, &[1, 99, 98, 8], &[1, 0, 0, 0]), 0);
 }
 
-/// A refusal has ceiling 0, also where the inputs are tables of zeros.
+/// A refusal has ceiling 0, also where the product would be all zeros.
 #[test]
-fn no_session_refused() {
+fn ceiling_of_a_refusal() {
     let answer = |m, pad: usize| ffi::subset_product(2, m, &[0; 4], &[0; 4], &mut [9; 4], &mut vec![9; pad]);
     assert_eq!(answer(101, 32), 255 << 32);
     assert_eq!(answer(101, 31), 4);

@@ -9,13 +9,9 @@ use borrow.Author.Needs.{needs}
 use borrow.Author.Tests.{eqb-true, eqb-false}
 use Rattle.definitions.specs.Products.{nonzero}
 use Rattle.theory.specs.Degree.{nonzero-at, degree-zeros}
-use Rattle.degrees.specs.Parts.{partDegree, part-most, part-whole, part-none, part-some}
+use Rattle.degrees.specs.Parts.{part-most, part-whole, part-none, part-some}
 use Rattle.degrees.proofs.degree.Statement.{statement}
 use Rattle.degrees.proofs.degree.Tie as tie
-
--- what is found of the whole table
-found : (c : tie.After-degree-of-part) → let a = c .before .before .args in c .degree-of-part .result .0 ≡ partDegree (a .n) 0 (now (a .a))
-found c = c .degree-of-part .ensures ∙ zero-max _
 
 degree-of-part-requires : tie.Need-degree-of-part-requires
 degree-of-part-requires c κs = search needs
@@ -28,18 +24,19 @@ shared-slice-read-if2 c =
 cast-result : tie.Need-cast-result
 cast-result c =
     let s = c .before .before .before .before .before in
-    omega (arith, s .pre, found (c .before .before .before), part-most (s .args .n) 0 (now (s .args .a)))
+    omega (arith, s .pre, c .before .before .before .degree-of-part .ensures, part-most (s .args .n) 0 (now (s .args .a)))
 
 returns : tie.Need-returns
 returns c =
     let tested = c .before .before in
-    let none = part-none _ _ (sym (found (tested .before .before)) ∙ tested .if1 .taken) (eqb-true _ _ (c .if2 .taken)) in
+    let s = tested .before .before .before .before .args in
+    let none = part-none (s .n) (now (s .a)) (omega (arith, tested .before .before .degree-of-part .ensures, tested .if1 .taken)) (eqb-true _ _ (c .if2 .taken)) in
     sym (degree-zeros _ _ none)
 
 returns-2 : tie.Need-returns-2
 returns-2 c =
     let tested = c .before in
-    let f = found (tested .before .before) in
+    let f = tested .before .before .degree-of-part .ensures ∙ zero-max _ in
     let s = tested .before .before .before .before .args in
     let some : nonzero (s .n) (now (s .a)) ≡ true = elim (tested .if1 .came) [
       | inl t ↦ nonzero-at _ _ 0 (pow-pos _) (eqb-false _ _ (t .2 .left))

@@ -1,10 +1,11 @@
+use mathlib.Core.Path.{ap, _∙_}
 use Prim.Native.Nat.{ℕ}
 use native.Mathlib.Nat.{le-refl}
 use native.Mathlib.Omega.{arith}
 use denote.Ref.{now}
 use lib.ListN.{length}
 use borrow.Author.Needs.{needs}
-use Rattle.definitions.specs.Products.{subsetTable, degreeBound}
+use Rattle.definitions.specs.Products.{subsetTable, degree}
 use Rattle.checks.specs.Accepted.{Product, product-accepted}
 use Rattle.checks.specs.Answers.{accepted, word-value}
 use Rattle.checks.specs.Ends.{Lent, used-in, part-long, clear-fits, front-cleared, accepted-call, refused-call}
@@ -49,10 +50,11 @@ clear-requires c κs =
     let at = c .before .before .before .before .before in
     omega (arith, clear-fits (lent (at .before .before .before)) (le-refl _) (at .product .last .1 .1 .1 .1 .1 .0) (at .product .kept .1 .1 .1 .1 .1 .0))
 
-degree-bound-requires : tie.Need-degree-bound-requires
-degree-bound-requires c κs =
-    let p = found (c .before .before .before .before .before .before .before .before .before .before .before .before .before) in
-    (p .range .few, p .first .size, p .second .size)
+degree-requires : tie.Need-degree-requires
+degree-requires c κs =
+    let at = c .before .before .before .before .before .before .before .before .before in
+    let p = found (at .before .before .before .before .before) in
+    (p .range .few, omega (arith, at .product .kept .1 .1 .1 .1 .0, p .result))
 
 enum-known-word : tie.Need-enum-known-word
 enum-known-word c = search needs
@@ -65,21 +67,21 @@ same-length-2 c = search needs
 
 returns : tie.Need-returns
 returns c =
-    let at = c .before .before .before .before .before .before .before .before .before in
+    let at = c .before .before .before .before .before .before .before .before .before .before in
     let lending = at .before .before .before in
     let accepting = lending .before .before in
     let s = start accepting .args in
     let end = accepted-call (accepting .before .before .check-product .ensures) (accepting .modulus .given .1)
     (λ (m : ℕ). subsetTable (s .n) m (now (s .a)) (now (s .b))) (at .product .ensures)
-    _ _ (front-cleared (lent lending) (le-refl _) (at .product .last .1 .1 .1 .1 .1 .0) (at .product .kept .1 .1 .1 .1 .1 .0) (c .before .before .before .clear .ensures)) in
-    (end .0, (c .degree-bound .ensures, end .1))
+    _ _ (front-cleared (lent lending) (le-refl _) (at .product .last .1 .1 .1 .1 .1 .0) (at .product .kept .1 .1 .1 .1 .1 .0) (c .before .before .before .before .clear .ensures)) in
+    (end .0, (c .degree .ensures ∙ ap (degree (s .n)) (end .1 .0), end .1))
 
 returns-2 : tie.Need-returns-2
 returns-2 c =
     let s = c .before .before .before .before .before .before .before .before .args in
     let h = c .before .before .before .check-product .ensures in
     let end = refused-call h (c .before .word .given .1) (subsetTable (s .n) (s .m) (now (s .a)) (now (s .b))) (now (s .result)) (s .n) (now (s .pad)) in
-    (end .0, (word-value h (c .before .word .given .1) (degreeBound (s .n) (now (s .a)) (now (s .b))), end .1))
+    (end .0, (word-value h (c .before .word .given .1) (degree (s .n) (subsetTable (s .n) (s .m) (now (s .a)) (now (s .b)))), end .1))
 
 pub subset-product-spec : {M : Type 1} → statement M
 subset-product-spec =
@@ -92,7 +94,7 @@ subset-product-spec =
     slice-aggregate-product
     product-requires
     clear-requires
-    degree-bound-requires
+    degree-requires
     enum-known-word
     same-length
     same-length-2

@@ -81,17 +81,9 @@ fn subsets_of_size(i: usize, j: usize) -> u32 {
     (0..1 << i).filter(|&set| size(set) as usize == j).count() as u32
 }
 
-/// The largest size of a set whose entry is not 0; a table of zeros has none.
-fn largest_size(a: &[u32]) -> Option<u32> {
-    (0..a.len()).filter(|&set| a[set] != 0).map(size).max()
-}
-
-/// What the subset product returns beside its number: 255 if an input is a table of zeros.
-pub fn returned_ceiling(n: u32, a: &[u32], b: &[u32]) -> u32 {
-    match (largest_size(a), largest_size(b)) {
-        (Some(a), Some(b)) => n.min(a + b),
-        _ => 255,
-    }
+/// The largest size of a set whose entry is not 0; 255 of a table of zeros.
+pub fn ceiling(a: &[u32]) -> u32 {
+    (0..a.len()).filter(|&set| a[set] != 0).map(size).max().unwrap_or(255)
 }
 
 fn reduced(totals: Vec<u64>, m: u32) -> Vec<u32> {
