@@ -103,9 +103,7 @@ pub worked-projections : AllHold projections
 unfolding residues tabulate subsetSum sum inside compositionSum listSum partitions subsets keep blockProduct flatMap oneRow wholeEntry projectionEntry projectionRow
 worked-projections = (refl, (refl, (refl, (refl, (refl, tt)))))
 
--- A table of zeros is told from one whose only nonzero entry is the empty set's. The ceiling of a subset product is not known from
--- those of its factors: their sets can overlap, and products of entries and sums of these can be 0 under m. The last is of P and its
--- inverse.
+-- A table of zeros is told from one whose only nonzero entry is the empty set's.
 abbrev pub ceilings : List Case
 ceilings =
     ceilingOf 2 (0 ∷ 0 ∷ 0 ∷ 0 ∷ []) 255
@@ -117,7 +115,17 @@ ceilings =
     ∷ ceilingOf 1 (0 ∷ 1 ∷ []) 1
     ∷ ceilingOf 3 (0 ∷ 0 ∷ 0 ∷ 0 ∷ 0 ∷ 0 ∷ 0 ∷ 1 ∷ []) 3
     ∷ ceilingOf 4 (0 ∷ 0 ∷ 0 ∷ 0 ∷ 0 ∷ 0 ∷ 0 ∷ 0 ∷ 0 ∷ 0 ∷ 0 ∷ 0 ∷ 0 ∷ 0 ∷ 0 ∷ 1 ∷ []) 4
-    ∷ ceiling 2 101 (0 ∷ 0 ∷ 0 ∷ 0 ∷ []) (0 ∷ 0 ∷ 0 ∷ 0 ∷ []) 255
+    ∷ []
+
+pub worked-ceilings : AllHold ceilings
+unfolding nonzero some degree largest ones
+worked-ceilings = (refl, (refl, (refl, (refl, (refl, (refl, (refl, (refl, (refl, tt)))))))))
+
+-- The ceiling of a subset product is not known from those of its factors: their sets can overlap, and products of entries and sums
+-- of these can be 0 under m. The last is of P and its inverse.
+abbrev pub productCeilings : List Case
+productCeilings =
+    ceiling 2 101 (0 ∷ 0 ∷ 0 ∷ 0 ∷ []) (0 ∷ 0 ∷ 0 ∷ 0 ∷ []) 255
     ∷ ceiling 2 101 (0 ∷ 0 ∷ 0 ∷ 0 ∷ []) P 255
     ∷ ceiling 2 101 P (0 ∷ 0 ∷ 0 ∷ 0 ∷ []) 255
     ∷ ceiling 0 5 (0 ∷ []) (4 ∷ []) 255
@@ -134,6 +142,6 @@ ceilings =
     ∷ ceiling 2 101 P (1 ∷ 99 ∷ 98 ∷ 8 ∷ []) 0
     ∷ []
 
-pub worked-ceilings : AllHold ceilings
+pub worked-product-ceilings : AllHold productCeilings
 unfolding residues tabulate subsetSum sum inside nonzero some degree largest ones
-worked-ceilings = (refl, (refl, (refl, (refl, (refl, (refl, (refl, (refl, (refl, (refl, (refl, (refl, (refl, (refl, (refl, (refl, (refl, (refl, (refl, (refl, (refl, (refl, (refl, (refl, tt))))))))))))))))))))))))
+worked-product-ceilings = (refl, (refl, (refl, (refl, (refl, (refl, (refl, (refl, (refl, (refl, (refl, (refl, (refl, (refl, (refl, tt)))))))))))))))
