@@ -1,4 +1,6 @@
 // The binomial product of rows, by rows of Pascal's triangle.
+#![tactic(auto)]
+
 ghost use Rattle.std.specs.Prelude.{◌≡◌, suc, ◌%◌, ◌<◌, ◌≤◌, length};
 ghost use Rattle.definitions.specs.Sums.{sum, tabulate};
 ghost use Rattle.definitions.specs.Rows.{binomial_row};

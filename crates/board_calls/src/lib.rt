@@ -1,4 +1,6 @@
 // The calls on boards: a fresh one, weight added at a set, weight taken out. The three tables are changed in place.
+#![tactic(auto)]
+
 ghost use Rattle.std.specs.Prelude.{◌≡◌};
 ghost use Rattle.definitions.specs.Refusals.{after};
 ghost use Rattle.definitions.specs.Boards.{board, added_at, raised_over, lowered_over, lacking, fresh_board, fresh_number, change_number};

@@ -1,4 +1,6 @@
 // The tests of the calls on boards, with 02's own words of refusal.
+#![tactic(auto)]
+
 ghost use Rattle.std.specs.Prelude.{◌≡◌, ◌≤◌};
 ghost use Rattle.definitions.specs.Limits.{most_controls};
 ghost use Rattle.definitions.specs.Refusals.{empty_word, code_word, weight_word};

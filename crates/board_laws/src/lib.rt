@@ -1,4 +1,6 @@
 // The law of boards: a fresh board and then any list of changes, whatever the lent memory held.
+#![tactic(auto)]
+
 ghost use Rattle.std.specs.Prelude.{◌≡◌, min, set};
 ghost use Rattle.definitions.specs.Boards.{board};
 ghost use Rattle.board_laws.specs.Law.{change_of, lent_changes, ChangeMade, ChangesMade, Lawful};

@@ -1,4 +1,6 @@
 // The three tables of a board, in place: those of a fresh one, and what an accepted change does to each.
+#![tactic(auto)]
+
 ghost use Rattle.std.specs.Prelude.{◌≡◌, ◌+◌, ◌*◌, ◌<◌, length};
 ghost use Rattle.definitions.specs.Sums.{tabulate};
 ghost use Rattle.definitions.specs.Partitions.{unit};

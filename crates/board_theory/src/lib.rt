@@ -1,1 +1,2 @@
 // Laws of boards: statements only.
+#![tactic(auto)]

@@ -1,4 +1,5 @@
 // Each call by the first byte of its word, for programs that read which one to run.
+#![tactic(auto)]
 
 // What stands for the number of a call that there is not, here and in the answer.
 const NONE: u32 = 4294967295;

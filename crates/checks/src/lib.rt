@@ -1,7 +1,9 @@
 // What calls on tables and rows share: 01's tests with their words of refusal, in 01's order. Each shape of call has one
 // check, and a call gets its modulus from that check alone. What clears the workspace (01: pad) is passed on beside them.
+#![tactic(auto)]
+
 ghost use Rattle.std.specs.Prelude.{◌≡◌, ◌∷◌};
-ghost use Rattle.definitions.specs.Refusals.{first_word, or_else, modulus_word, number_of_sum, binomial_number, product_number, xor_number, single_number, composition_number};
+ghost use Rattle.definitions.specs.Refusals.{first_word, or_else, modulus_word, sum_number, binomial_number, product_number, xor_number, single_number, composition_number};
 ghost use Rattle.checks.specs.Accepted.{pair_words, start_number, table_number};
 ghost use Rattle.checks.specs.Answers.{IsChecked, also_tested};
 
@@ -13,7 +15,7 @@ use refusal_words::{
 use residues::{Modulus, ModulusAnswer};
 
 // What the tests of a call say: the modulus, or the word of the refusal.
-#[derive(Drop)]
+#[derive(Clone, Copy)]
 pub enum Checked {
     Accepted(Modulus),
     Refused(u32),

@@ -1,5 +1,7 @@
 // The composition of a table with a row, worked in the workspace that it is lent: the rows of its products in front, its tables side
 // by side behind them. It writes nothing else, so that the table may stand wherever a caller has it.
+#![tactic(auto)]
+
 ghost use Rattle.std.specs.Prelude.{◌≡◌, ◌≤◌, length, drop};
 ghost use Rattle.definitions.specs.Sums.{at};
 ghost use Rattle.definitions.specs.Partitions.{composition_table};

@@ -7,6 +7,8 @@
 // entry m - 1.
 // Printed is how many entries differ, the number that the call returned and what it left in its pad. Results and pads are
 // lent full of the largest number.
+#![tactic(auto)]
+
 mod compare;
 mod report;
 

@@ -1,9 +1,11 @@
 // The calls that work entry by entry and need no workspace: sum and difference of tables, and, passed on, binomial product of
 // rows.
+#![tactic(auto)]
+
 ghost use Rattle.std.specs.Prelude.{◌≡◌, length};
 ghost use Rattle.definitions.specs.Sums.{tabulate};
 ghost use Rattle.definitions.specs.Products.{sum_table, difference_table};
-ghost use Rattle.definitions.specs.Refusals.{number_of_sum, after};
+ghost use Rattle.definitions.specs.Refusals.{sum_number, after};
 ghost use Rattle.pointwise.specs.Pairs.{Inputs};
 ghost use Rattle.entrywise.specs.Rules.{sum_at, difference_at};
 

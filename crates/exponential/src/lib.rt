@@ -1,4 +1,6 @@
 // The exponential of a table, worked where it stands, in the workspace that it is lent.
+#![tactic(auto)]
+
 ghost use Rattle.std.specs.Prelude.{◌≡◌, suc};
 ghost use Rattle.definitions.specs.Partitions.{exponential_table};
 ghost use Rattle.residues.specs.Moduli.{Valid};

@@ -1,5 +1,7 @@
 // The round trip of the calls, over both kinds: a table that is written reads back, and a file that is read is written again by
 // the writer of its kind.
+#![tactic(auto)]
+
 ghost use Rattle.std.specs.Prelude.{length};
 ghost use Rattle.definitions.specs.Files.{writer_number};
 ghost use Rattle.table_header.specs.HeaderAnswers.{kind_is};
@@ -11,7 +13,7 @@ use table_file::{HeaderAnswer, Kind, read_table};
 use table_writer::{Written, write_table};
 
 // What the two calls of a round trip answered. A refusal of the first is that of both.
-#[derive(Drop)]
+#[derive(Clone, Copy)]
 pub struct Trip {
     pub written: Written,
     pub answer: HeaderAnswer,

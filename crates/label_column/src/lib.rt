@@ -1,4 +1,6 @@
 // The set column of a line: the labels of the set's controls, joined by +, over blanks.
+#![tactic(auto)]
+
 ghost use Rattle.std.specs.Prelude.{◌≡◌, ◌+◌, ◌^◌, ◌<◌, ◌≤◌, length};
 ghost use Rattle.definitions.specs.Limits.{most_controls, longest_label};
 ghost use Rattle.definitions.specs.Sums.{at};

@@ -1,4 +1,6 @@
 // A label sheet read: all of it is tested, and its labels go to an array of numbers, from which a label is written by one store.
+#![tactic(auto)]
+
 ghost use Rattle.std.specs.Prelude.{◌≡◌, ◌+◌, ◌<◌, ◌≤◌, length, drop};
 ghost use Rattle.definitions.specs.Limits.{most_controls, longest_label};
 ghost use Rattle.definitions.specs.Outcomes.{number_of, and_then};
@@ -18,7 +20,7 @@ pub const LONGEST_LABEL: usize = 8;
 pub const ARRAY_LENGTH: usize = 32;
 
 // The place behind what was read, or the number of the refusal.
-#[derive(Drop)]
+#[derive(Clone, Copy)]
 pub enum PlaceAnswer {
     Next(usize),
     Refused(u32),

@@ -1,1 +1,2 @@
 // Laws of label sheets, and of wall pages with their labels: statements only.
+#![tactic(auto)]

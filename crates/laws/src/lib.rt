@@ -1,9 +1,11 @@
 // Demand 3: thirteen calls under one n and m, and what holds of their outcomes whatever the lent memory held.
+#![tactic(auto)]
+
 ghost use Rattle.std.specs.Prelude.{[]};
 ghost use Rattle.laws_theory.specs.Demand.{Laws};
 
 // The number that each call returned.
-#[derive(Drop)]
+#[derive(Clone, Copy)]
 pub struct Numbers {
     pub sum: u32,
     pub exp_sum: u32,
@@ -83,7 +85,7 @@ pub fn laws(
       };
     }) ⌝ }
 {
-    let number_of_sum = entrywise::sum(n, m, a, b, sum);
+    let sum_number = entrywise::sum(n, m, a, b, sum);
     let exp_sum_number = series_calls::exponential(n, m, sum, exp_sum, exp_sum_pad);
     let exp_a_number = series_calls::exponential(n, m, a, exp_a, exp_a_pad);
     let exp_b_number = series_calls::exponential(n, m, b, exp_b, exp_b_pad);
@@ -111,7 +113,7 @@ pub fn laws(
         comp_product_pad,
     );
     Numbers {
-        sum: number_of_sum,
+        sum: sum_number,
         exp_sum: exp_sum_number,
         exp_a: exp_a_number,
         exp_b: exp_b_number,

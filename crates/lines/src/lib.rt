@@ -1,4 +1,6 @@
 // Lines of text, for the programs that run the calls: a case is read from a line, and its outcome printed as one.
+#![tactic(auto)]
+
 mod fields;
 mod printing;
 mod reading;

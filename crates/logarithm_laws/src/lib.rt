@@ -1,10 +1,12 @@
 // Logarithms add up, and the exponential of 0 - A is the inverse of A's: nine calls under one n and m, and what holds of their
 // outcomes whatever the lent memory held.
+#![tactic(auto)]
+
 ghost use Rattle.std.specs.Prelude.{[]};
 ghost use Rattle.logarithm_laws.specs.Law.{Lawful};
 
 // The number that each call returned.
-#[derive(Drop)]
+#[derive(Clone, Copy)]
 pub struct Numbers {
     pub product: u32,
     pub log_product: u32,
@@ -72,7 +74,7 @@ pub fn logarithm_laws(
     let log_product_number = series_calls::logarithm(n, m, product, log_product, log_product_pad);
     let log_e_number = series_calls::logarithm(n, m, e, log_e, log_e_pad);
     let log_f_number = series_calls::logarithm(n, m, f, log_f, log_f_pad);
-    let number_of_sum = entrywise::sum(n, m, log_e, log_f, sum);
+    let sum_number = entrywise::sum(n, m, log_e, log_f, sum);
     let exp_a_number = series_calls::exponential(n, m, a, exp_a, exp_a_pad);
     let inverse_number = series_calls::inverse(n, m, exp_a, inverse, inverse_pad);
     let difference_number = entrywise::difference(n, m, z, a, difference);
@@ -88,7 +90,7 @@ pub fn logarithm_laws(
         log_product: log_product_number,
         log_e: log_e_number,
         log_f: log_f_number,
-        sum: number_of_sum,
+        sum: sum_number,
         exp_a: exp_a_number,
         inverse: inverse_number,
         difference: difference_number,

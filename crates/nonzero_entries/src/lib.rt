@@ -1,4 +1,6 @@
 // The next entry of a table that is not 0.
+#![tactic(auto)]
+
 ghost use Rattle.std.specs.Prelude.{◌≡◌, ◌+◌, ◌≤◌, length};
 ghost use Rattle.nonzero_entries.specs.Entries.{ZerosAt, Skipped, NextEntry};
 

@@ -1,5 +1,7 @@
 // Numbers in a table file: groups of seven bits, lowest group first, one to a byte; the top bit is 1 when another group
 // follows. Only the shortest form of a value below 2^32 is taken.
+#![tactic(auto)]
+
 ghost use Rattle.std.specs.Prelude.{◌≡◌, ◌+◌, ◌*◌, ◌^◌, ◌<◌, ◌≤◌, length, drop};
 ghost use Rattle.std.proofs.lemmas.List.Edits.{sets};
 ghost use Rattle.definitions.specs.Groups.{groups, read_number};
@@ -9,13 +11,13 @@ ghost use Rattle.number_groups.specs.NumberAnswers.{IsGroup, ReadsAt, ReadsBehin
 const GROUP: u32 = 8;
 
 // A number that stands in a file, and the place behind it.
-#[derive(Drop)]
+#[derive(Clone, Copy)]
 pub struct Numeral {
     pub value: u32,
     pub next: usize,
 }
 
-#[derive(Drop)]
+#[derive(Clone, Copy)]
 pub enum NumberAnswer {
     Number(Numeral),
     // 01's number of the refusal
@@ -110,7 +112,7 @@ fn fifth_group(low: u64, group: u64, next: usize) -> NumberAnswer
 }
 
 // A byte of a number, and the place behind it. (`read_groups` does without, since it would be slower.)
-#[derive(Drop)]
+#[derive(Clone, Copy)]
 struct Group {
     byte: u64,
     next: usize,

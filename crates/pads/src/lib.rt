@@ -1,4 +1,6 @@
 // How many entries a table has, and how many of the workspace (01: pad) a call uses; clearing these.
+#![tactic(auto)]
+
 ghost use Rattle.std.specs.Prelude.{◌≡◌, ◌^◌, ◌≤◌, length};
 ghost use Rattle.definitions.specs.Limits.{most_controls, pad_length};
 ghost use Rattle.definitions.specs.Refusals.{cleared};

@@ -1,4 +1,6 @@
 // What wall pages have besides the column of the set: the rest of a line, the heading, and how many lines and pages there are.
+#![tactic(auto)]
+
 ghost use Rattle.std.specs.Prelude.{◌≡◌, ◌+◌, ◌^◌, ◌<◌, ◌≤◌, length};
 ghost use Rattle.definitions.specs.Limits.{most_controls};
 ghost use Rattle.definitions.specs.Pages.{behind_column, heading_text, heading, pages_for};
@@ -13,7 +15,7 @@ use text_pieces::{
 pub const PAGE_LINES: u32 = 50;
 
 // Where the next text goes, and the code from which the next line is looked for.
-#[derive(Drop)]
+#[derive(Clone, Copy)]
 pub struct Place {
     pub next: usize,
     pub code: usize,

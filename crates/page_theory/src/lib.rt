@@ -1,1 +1,2 @@
 // Laws of wall pages: statements only.
+#![tactic(auto)]

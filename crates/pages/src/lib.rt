@@ -1,5 +1,7 @@
 // The call that writes the wall pages of a table: a line for each entry that is not 0, with the labels of its set's controls, 50 to a
 // page. The sheet is read and the lines are counted before a byte is written, so that a refusal leaves the buffer as it came.
+#![tactic(auto)]
+
 ghost use Rattle.std.specs.Prelude.{◌≡◌, length};
 ghost use Rattle.definitions.specs.Pages.{line_of, pages_text, pages_number, pages_written, pages_buffer};
 ghost use Rattle.text_pieces.specs.Text.{Writes};

@@ -1,4 +1,6 @@
 // Shows a table file from standard input: n and m, then each nonzero entry with its code and size, or `refused` and the number.
+#![tactic(auto)]
+
 use libc::{STDIN_FILENO, STDOUT_FILENO};
 
 fn main() {

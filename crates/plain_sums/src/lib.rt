@@ -1,4 +1,6 @@
 // Sums over pairs of sets and over partitions, added up one by one, and tables to try them on. Nothing here is the library's.
+#![tactic(auto)]
+
 mod numbers;
 mod pairs;
 mod partitions;

@@ -1,4 +1,6 @@
 // Tables entry by entry: a copy, a product, a factor.
+#![tactic(auto)]
+
 ghost use Rattle.std.specs.Prelude.{◌≡◌, ◌*◌, ◌<◌, length};
 ghost use Rattle.definitions.specs.Sums.{at};
 ghost use Rattle.definitions.specs.Products.{residues};

@@ -1,6 +1,8 @@
 // The projection, by the transposed recursion of source 001 section 4, worked in the workspace that it is lent: the rows of a product
 // in front, and two areas behind them. With k controls left an area holds n - k + 1 tables side by side; the next ones go into the
 // other area.
+#![tactic(auto)]
+
 ghost use Rattle.std.specs.Prelude.{◌≡◌};
 ghost use Rattle.definitions.specs.Projection.{projection_row};
 ghost use Rattle.residues.specs.Moduli.{Valid};

@@ -1,5 +1,7 @@
 // The public call of the projection. It makes 01's tests, works in the part of the pad that it may use, and clears that part once,
 // at the end.
+#![tactic(auto)]
+
 ghost use Rattle.std.specs.Prelude.{◌≡◌, length};
 ghost use Rattle.definitions.specs.Projection.{projection_row};
 ghost use Rattle.definitions.specs.Refusals.{projection_number, after, pad_after};

@@ -1,8 +1,10 @@
 // The law of the projection: three calls under one n and m, and what holds of their outcomes whatever the lent memory held.
+#![tactic(auto)]
+
 ghost use Rattle.projection_laws.specs.Law.{Lawful};
 
 // The number that each call returned.
-#[derive(Drop)]
+#[derive(Clone, Copy)]
 pub struct Numbers {
     pub projection: u32,
     pub composition: u32,

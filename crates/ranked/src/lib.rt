@@ -1,5 +1,7 @@
 // The ranked subset product of 001 section 1: the recursion on rows (see `ranked_rows`), laying a factor out, reading the result off,
 // and the product made of them. Laying out and reading off ask `ranked_rows` for the places, so that nothing above counts on the layout.
+#![tactic(auto)]
+
 ghost use Rattle.std.specs.Prelude.{◌≡◌, ◌^◌, ◌≤◌, length};
 ghost use Rattle.definitions.specs.Products.{subset_table};
 ghost use Rattle.residues.specs.Moduli.{Valid};

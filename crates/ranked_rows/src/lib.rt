@@ -2,6 +2,8 @@
 // section 1. Row h has 2n + 2 numbers. On the way down the two factors lie side by side, the left one's rank k at 2 (|h| - k) and the
 // right one's next to it; from one entry up, the row holds the result's rank |h| + i at 2n - i. Since ranks are counted from |h|, a row
 // starts with what its entry is made of and ends with what it becomes.
+#![tactic(auto)]
+
 ghost use Rattle.std.specs.Prelude.{◌≡◌, ◌+◌, ◌-◌, ◌*◌, ◌^◌, ◌<◌, ◌≤◌, min};
 ghost use Rattle.definitions.specs.Sets.{size};
 ghost use Rattle.residues.specs.Moduli.{Valid, Residue};

@@ -1,5 +1,7 @@
 // Runs of numbers in rows: one run added to another modulo m, or subtracted from it. Four numbers are read before one of them is
 // stored, so that the machine works them at once; where the last four overlap the four before them, both store the same there.
+#![tactic(auto)]
+
 ghost use Rattle.std.specs.Prelude.{◌≡◌, ◌+◌, ◌<◌, ◌≤◌, length};
 ghost use Rattle.definitions.specs.Sums.{at};
 ghost use Rattle.residues.specs.Moduli.{Valid};
@@ -8,7 +10,7 @@ ghost use Rattle.ranked_theory.specs.Rows.{plus, minus, stored, of_four, Placed,
 use residues::Modulus;
 
 // Four numbers that follow each other.
-#[derive(Drop)]
+#[derive(Clone, Copy)]
 struct Four {
     first: u32,
     second: u32,

@@ -1,5 +1,7 @@
 // The subset product of a table at one place of a workspace and of a lent table, into another place of the same workspace. Two parts
 // of one slice cannot be lent at once, so a table is laid out from the slice that has the rows.
+#![tactic(auto)]
+
 ghost use Rattle.std.specs.Prelude.{◌≡◌, ◌^◌, length};
 ghost use Rattle.residues.specs.Moduli.{Valid};
 ghost use Rattle.ranked_within.specs.Within.{Standing, LaidWithin, ReadWithin, WithinReady, WithinMade};

@@ -1,5 +1,7 @@
 // The stack machine that works a recipe out from its code, in lent memory. The top of the stack is the result; the values below it stand
 // in places of the pad behind the workspace. What the result held at first is put below them all, so that it can be given back.
+#![tactic(auto)]
+
 ghost use Rattle.std.specs.Prelude.{◌≡◌, ◌≤◌, ◌^◌, length};
 ghost use Rattle.definitions.specs.Limits.{most_controls};
 ghost use Rattle.definitions.specs.Recipes.{Letter, Tree, sum, Choice, lettered, worth};
@@ -14,7 +16,7 @@ use recipe_operations::{Function, Sign, apply, combine, restore, save};
 use residues::Modulus;
 
 // The names of the lent tables.
-#[derive(Drop)]
+#[derive(Clone, Copy)]
 pub enum Name {
     A,
     B,
@@ -22,7 +24,7 @@ pub enum Name {
     D,
 }
 
-#[derive(Drop)]
+#[derive(Clone, Copy)]
 pub enum Code {
     Push(Name),
     Combine(Sign),

@@ -2,6 +2,8 @@
 // on the result, a function on the result. Each leaves its table in the result. A part of a slice that is written cannot be lent beside
 // another, so a core that writes in the pad is given the result and one part of the pad. What must be tested is tested before anything
 // is written.
+#![tactic(auto)]
+
 ghost use Rattle.std.specs.Prelude.{◌≡◌, ◌+◌, ◌^◌, ◌≤◌, length, take, drop};
 ghost use Rattle.definitions.specs.Products.{sum_table, difference_table};
 ghost use Rattle.definitions.specs.Recipes.{plus, minus, times, union, xor, exponential, logarithm, inverse, Choice, sign_call, opening_call};
@@ -20,7 +22,7 @@ use residues::{Modulus, Reciprocal};
 use series_rows::{inverse_table, logarithm_table};
 use transform_passes::{Transform, convolve_in_place, halved};
 
-#[derive(Drop)]
+#[derive(Clone, Copy)]
 pub enum Sign {
     Plus,
     Minus,
@@ -29,7 +31,7 @@ pub enum Sign {
     Xor,
 }
 
-#[derive(Drop)]
+#[derive(Clone, Copy)]
 pub enum Function {
     Exponential,
     Logarithm,

@@ -1,5 +1,7 @@
 // Recipes, read from a line: the readers of sum, alternative, product and factor call each other. What is read is written in
 // postfix order, a byte for each table or call, into lent bytes.
+#![tactic(auto)]
+
 ghost use Rattle.std.specs.Prelude.{◌≤◌, length};
 ghost use Rattle.definitions.specs.Limits.{longest_recipe};
 ghost use Rattle.definitions.specs.Recipes.{factor, product, alternative, sum};
@@ -11,7 +13,7 @@ use recipe_words::{
     product_sign, read_letter, sum_sign, too_long,
 };
 
-#[derive(Drop)]
+#[derive(Clone, Copy)]
 pub enum RecipeAnswer {
     // how many bytes of code there are
     Code(usize),

@@ -1,5 +1,7 @@
 // The parts of a recipe's line: its length, openings and signs at a place, a letter, a closing parenthesis, and what is decided at the end.
 // What is read is written in postfix order, a byte for each table or call, into lent bytes.
+#![tactic(auto)]
+
 ghost use Rattle.std.specs.Prelude.{◌≡◌, ◌+◌, ◌<◌, ◌≤◌, max, ltb, length, drop, set};
 ghost use Rattle.std.proofs.Math.Option.{none};
 ghost use Rattle.definitions.specs.Limits.{longest_recipe};
@@ -14,26 +16,26 @@ pub const LONGEST_RECIPE: usize = 120;
 const DEEPEST_NESTING: usize = 8;
 
 // Behind a part of a recipe: the place in the line, how many bytes of code there are, and how deep the part nests.
-#[derive(Drop)]
+#[derive(Clone, Copy)]
 pub struct Place {
     pub next: usize,
     pub used: usize,
     pub depth: usize,
 }
 
-#[derive(Drop)]
+#[derive(Clone, Copy)]
 pub enum ReadAnswer {
     Read(Place),
     Refused,
 }
 
-#[derive(Drop)]
+#[derive(Clone, Copy)]
 pub enum SignAnswer {
     Sign(u8),
     Nothing,
 }
 
-#[derive(Drop)]
+#[derive(Clone, Copy)]
 pub enum OpeningAnswer {
     // how many bytes, and the code of the function, 0 for plain parentheses
     Opened(usize, u8),

@@ -1,5 +1,7 @@
 // The public call of a recipe on one line. It tests panel, modulus and lengths, reads the line, tests the entries, and then makes the
 // recipe's calls in the stated pad, which it clears once, at the end.
+#![tactic(auto)]
+
 ghost use Rattle.std.specs.Prelude.{◌≡◌, ◌≤◌, length};
 ghost use Rattle.definitions.specs.Limits.{most_controls, recipe_pad_length};
 ghost use Rattle.definitions.specs.Refusals.{cleared};

@@ -1,4 +1,6 @@
 // 01's tests, one function each: the word of the refusal, or 0; and of some words the one that counts.
+#![tactic(auto)]
+
 ghost use Rattle.std.specs.Prelude.{◌≡◌, not, ◌≤◌, eqb};
 ghost use Rattle.definitions.specs.Limits.{most_controls};
 ghost use Rattle.definitions.specs.Sums.{at};

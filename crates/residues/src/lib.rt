@@ -1,20 +1,22 @@
 // Residues: numbers modulo m. The modulus with its limits, sum, difference and product of two residues, sums of products
 // that are divided once, and reciprocals. What bounds the numbers inside is seen in this crate alone, but for how many products
 // a sum may have.
+#![tactic(auto)]
+
 ghost use Rattle.std.specs.Prelude.{◌≡◌, ◌+◌, ◌-◌, ◌*◌, ◌<◌};
 ghost use Rattle.residues.specs.Moduli.{modulus_of, Valid, Below, Residue, Back};
 ghost use Rattle.residues.specs.Accumulated.{held, Sound, Started, Added, Summed};
 ghost use Rattle.residues.specs.Reciprocals.{ReciprocalIs, InRange, Next};
 
 // Only `Modulus::new` makes one.
-#[derive(Drop)]
+#[derive(Clone, Copy)]
 pub struct Modulus {
     value: u32,
     // the residue of 2 to the 64
     two_64: u64,
 }
 
-#[derive(Drop)]
+#[derive(Clone, Copy)]
 pub enum ModulusAnswer {
     Modulus(Modulus),
     // 01's number for a refused modulus
@@ -22,20 +24,20 @@ pub enum ModulusAnswer {
 }
 
 // A sum of products: the lowest 64 bits, and how often they were carried over.
-#[derive(Drop)]
+#[derive(Clone, Copy)]
 pub struct Accumulator {
     low: u64,
     carries: u32,
 }
 
 // A sum of two numbers of 64 bits.
-#[derive(Drop)]
+#[derive(Clone, Copy)]
 struct Wide {
     low: u64,
     carry: u32,
 }
 
-#[derive(Drop)]
+#[derive(Clone, Copy)]
 pub enum Reciprocal {
     Of(u32),
     // a divisor above 1 of the number and of the modulus
@@ -43,7 +45,7 @@ pub enum Reciprocal {
 }
 
 // Two remainders of Euclid's algorithm for m and a, and for each a residue which times a gives it modulo m.
-#[derive(Drop)]
+#[derive(Clone, Copy)]
 struct Remainders {
     larger: u32,
     smaller: u32,

@@ -1,4 +1,6 @@
 // Logarithm and inverse of a table: compositions with rows that are worked modulo m. No factorial is divided by.
+#![tactic(auto)]
+
 ghost use Rattle.std.specs.Prelude.{◌≡◌, ◌+◌, ◌-◌, ◌*◌, ◌<◌, ◌≤◌};
 ghost use Rattle.theory.specs.Logarithm.{logarithm_of};
 ghost use Rattle.theory.specs.Inverse.{inverse_of};

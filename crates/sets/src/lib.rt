@@ -1,15 +1,17 @@
 // Sets of controls by their codes, and how many controls a code has. A code and a size are kinds of their own, so that one
 // is never taken for the other.
+#![tactic(auto)]
+
 ghost use Rattle.std.specs.Prelude.{◌≡◌, ◌+◌, ◌<◌};
 ghost use Rattle.definitions.specs.Sets.{size};
 ghost use Rattle.sets.specs.Sizes.{code_limit};
 
 // 01's code of a set, the source's h.
-#[derive(Drop)]
+#[derive(Clone, Copy)]
 pub struct SetCode(pub usize);
 
 // 01's size of a set, the source's k.
-#[derive(Drop)]
+#[derive(Clone, Copy)]
 pub struct SetSize(pub usize);
 
 impl SetCode {

@@ -1,6 +1,8 @@
 // The table of a sparse file, behind m: how many entries are not 0, and for each of these in rising code the codes that are
 // skipped before it and its value. Everything is tested by one function and filled in by another, so that a refusal leaves a
 // lent table as it came.
+#![tactic(auto)]
+
 ghost use Rattle.std.specs.Prelude.{◌≡◌, ℕ, length, drop};
 ghost use Rattle.definitions.specs.Outcomes.{number_of, and_then};
 ghost use Rattle.definitions.specs.Files.{sparse, zeros, read_gap, read_value, read_pair, read_pairs, read_contents};
@@ -12,14 +14,14 @@ use number_groups::{NumberAnswer, number_again, read_number};
 use pads::clear;
 
 // An entry that is not 0, with the codes skipped before it, and the place behind it.
-#[derive(Drop)]
+#[derive(Clone, Copy)]
 pub struct Pair {
     pub gap: u32,
     pub value: u32,
     pub next: usize,
 }
 
-#[derive(Drop)]
+#[derive(Clone, Copy)]
 pub enum PairAnswer {
     Pair(Pair),
     Refused(u32),

@@ -1,6 +1,8 @@
 // The writer of sparse files: 32 + n, then m, then how many entries are not 0, then for each of these in rising code the codes
 // skipped before it and its value. One pass over the table tests its entries and finds how long the file is, a second one
 // writes, so that a refusal leaves the buffer as it came.
+#![tactic(auto)]
+
 ghost use Rattle.std.specs.Prelude.{◌≡◌, ◌+◌, ◌<◌, ◌≤◌, length};
 ghost use mathlib.Core.List.{[], ◌∷◌, flat_map};
 ghost use Rattle.std.proofs.lemmas.List.Edits.{sets};
@@ -20,13 +22,13 @@ use table_header::SPARSE_MARK;
 use table_writer::Written;
 
 // How many entries of a table are not 0, and how many bytes they have in a sparse file.
-#[derive(Drop)]
+#[derive(Clone, Copy)]
 pub struct Sizes {
     pub entries: u32,
     pub bytes: u32,
 }
 
-#[derive(Drop)]
+#[derive(Clone, Copy)]
 pub enum SizesAnswer {
     Sizes(Sizes),
     // the number of the refusal

@@ -1,10 +1,12 @@
 // The calls as C functions, each with the contract of the call itself. A slice is a pointer and a length.
+#![tactic(auto)]
+
 ghost use Rattle.std.specs.Prelude.{◌≡◌, length};
 ghost use Rattle.definitions.specs.Products.{sum_table, difference_table, subset_table, union_table, xor_table, degree};
 ghost use Rattle.definitions.specs.Rows.{binomial_row};
 ghost use Rattle.definitions.specs.Partitions.{exponential_table, composition_table, IsLogarithm, IsInverse};
 ghost use Rattle.definitions.specs.Projection.{projection_row};
-ghost use Rattle.definitions.specs.Refusals.{number_of_sum, binomial_number, product_number, xor_number, exponential_number, logarithm_number, composition_number, inverse_number, projection_number};
+ghost use Rattle.definitions.specs.Refusals.{sum_number, binomial_number, product_number, xor_number, exponential_number, logarithm_number, composition_number, inverse_number, projection_number};
 ghost use Rattle.definitions.specs.Refusals.{after, value_after, pad_after};
 ghost use Rattle.definitions.specs.Boards.{board, added_at, raised_over, lowered_over, lacking, fresh_board, fresh_number, change_number};
 ghost use Rattle.definitions.specs.Outcomes.{Outcome};

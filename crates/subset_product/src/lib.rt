@@ -1,4 +1,6 @@
 // 01's subset product of two tables, with its degree (01: returned ceiling).
+#![tactic(auto)]
+
 ghost use Rattle.std.specs.Prelude.{◌≡◌, length};
 ghost use Rattle.definitions.specs.Products.{subset_table, degree};
 ghost use Rattle.definitions.specs.Refusals.{product_number, after, value_after, pad_after};
@@ -6,7 +8,7 @@ ghost use Rattle.definitions.specs.Refusals.{product_number, after, value_after,
 use checks::Checked;
 use degrees::degree;
 
-#[derive(Drop)]
+#[derive(Clone, Copy)]
 pub struct Product {
     // 0, or 01's number of the refusal
     pub number: u32,

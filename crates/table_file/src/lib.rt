@@ -1,6 +1,8 @@
 // The reader of table files of both kinds: header, table length, entries and end, in file order. The entries of a full file are
 // read here, those of a sparse one in `sparse_file`. All is checked before the table is filled, so that a refusal leaves it as it
 // came.
+#![tactic(auto)]
+
 ghost use Rattle.std.specs.Prelude.{◌≡◌, ℕ, ◌≤◌, length, drop};
 ghost use Rattle.definitions.specs.Limits.{most_controls};
 ghost use Rattle.definitions.specs.Outcomes.{number_of};

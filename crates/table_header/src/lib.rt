@@ -1,5 +1,7 @@
 // The header of a table file of either kind, in file order: its first number (8, then 1), which is n in a full file and 32 + n
 // in a sparse one, and then m (8, then 2).
+#![tactic(auto)]
+
 ghost use Rattle.std.specs.Prelude.{◌≡◌, ◌<◌};
 ghost use Rattle.definitions.specs.Files.{first_of, read_header, header_number, header_kind, header_controls, header_modulus, packed};
 ghost use Rattle.table_header.specs.HeaderAnswers.{number_of_answer, n_of, m_of, first_is, first_outcome, opening_outcome, modulus_behind, AnswerIs};
@@ -11,13 +13,13 @@ use residues::{Modulus, ModulusAnswer};
 // What the first number of a sparse file has above n.
 pub const SPARSE_MARK: u32 = 32;
 
-#[derive(Drop)]
+#[derive(Clone, Copy)]
 pub enum Kind {
     Full,
     Sparse,
 }
 
-#[derive(Drop)]
+#[derive(Clone, Copy)]
 pub struct Header {
     pub kind: Kind,
     pub n: u32,
@@ -25,7 +27,7 @@ pub struct Header {
 }
 
 // What header check and reader answer.
-#[derive(Drop)]
+#[derive(Clone, Copy)]
 pub enum HeaderAnswer {
     Header(Header),
     // the number of the refusal
@@ -33,20 +35,20 @@ pub enum HeaderAnswer {
 }
 
 // What the first number of a file says.
-#[derive(Drop)]
+#[derive(Clone, Copy)]
 pub struct First {
     pub kind: Kind,
     pub n: u32,
 }
 
-#[derive(Drop)]
+#[derive(Clone, Copy)]
 pub enum FirstAnswer {
     First(First),
     Refused(u32),
 }
 
 // A header, and the place behind it.
-#[derive(Drop)]
+#[derive(Clone, Copy)]
 pub struct Opening {
     pub kind: Kind,
     pub n: u32,
@@ -54,7 +56,7 @@ pub struct Opening {
     pub next: usize,
 }
 
-#[derive(Drop)]
+#[derive(Clone, Copy)]
 pub enum OpeningAnswer {
     Opening(Opening),
     Refused(u32),

@@ -53,7 +53,7 @@ fn write_shown(bytes: &[u8], table: &mut [u32], out: &mut [u8]) -> usize
 }
 
 // A text, and how many of its bytes count: the longest has 8,470, a line of two numbers and 256 lines of three.
-#[derive(Drop)]
+#[derive(Clone, Copy)]
 pub struct Text {
     pub bytes: [u8; 8470],
     pub length: usize,

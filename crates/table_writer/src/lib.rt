@@ -1,5 +1,7 @@
 // The writer of full files: the file of a table at the start of a lent buffer. The file's length is known before a byte is
 // written, so that a refusal leaves the buffer as it came.
+#![tactic(auto)]
+
 ghost use Rattle.std.specs.Prelude.{◌≡◌, ◌+◌, ◌≤◌, length};
 ghost use mathlib.Core.List.{flat_map};
 ghost use Rattle.std.proofs.lemmas.List.Edits.{sets};
@@ -11,7 +13,7 @@ use checks::{Checked, check_table};
 use number_groups::{number_length, write_number};
 
 // The number of a call that writes to a buffer, and how many bytes it wrote.
-#[derive(Drop)]
+#[derive(Clone, Copy)]
 pub struct Written {
     pub number: u32,
     pub count: u32,

@@ -1,5 +1,7 @@
 // Pieces of text in a lent buffer: bytes, blanks, numbers in decimal. Each function writes at a place and answers the place
 // behind.
+#![tactic(auto)]
+
 ghost use Rattle.std.specs.Prelude.{◌≡◌, ◌∷◌, [], ◌+◌, ◌-◌, ◌^◌, ◌<◌, ◌≤◌, length};
 ghost use Rattle.definitions.specs.Show.{decimal};
 ghost use Rattle.definitions.specs.Pages.{blanks, aligned};

@@ -1,4 +1,6 @@
 // Transforms that act on one control at a time, in place: with n controls some n · 2^n steps each.
+#![tactic(auto)]
+
 ghost use Rattle.std.specs.Prelude.{◌≡◌, List, ℕ, ◌+◌, ◌-◌, ◌*◌, ◌%◌, ◌^◌, ◌<◌, ◌≤◌, length};
 ghost use Rattle.definitions.specs.Sums.{tabulate, at};
 ghost use Rattle.theory.specs.Passes.{crossed, pass};
@@ -12,7 +14,7 @@ use residues::Modulus;
 
 // What a transform does with one control: from x and y, the entries of a set without the control and of the set with it, come
 // the new entries of the two.
-#[derive(Drop)]
+#[derive(Clone, Copy)]
 pub enum Transform {
     // x and y + x: over all controls, the sums over subsets
     Zeta,
@@ -23,7 +25,7 @@ pub enum Transform {
 }
 
 // The entries of four sets: one with neither of two controls, and the same with the first, the second and both of them.
-#[derive(Drop)]
+#[derive(Clone, Copy)]
 struct Four {
     neither: u32,
     first: u32,

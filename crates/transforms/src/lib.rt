@@ -1,4 +1,6 @@
 // Union and xor product: transforms that act on one control at a time turn each of them into a product entry by entry.
+#![tactic(auto)]
+
 ghost use Rattle.std.specs.Prelude.{◌≡◌, ◌%◌, length};
 ghost use Rattle.definitions.specs.Limits.{pad_length};
 ghost use Rattle.definitions.specs.Products.{union_table, xor_table};

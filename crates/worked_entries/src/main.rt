@@ -4,6 +4,8 @@
 //     name|call|n|m|first table|second table or row|length of the result|length of the pad
 //
 // A result and a pad are lent full of 9s, so a refused call shows 9s.
+#![tactic(auto)]
+
 mod show;
 
 use libc::STDIN_FILENO;

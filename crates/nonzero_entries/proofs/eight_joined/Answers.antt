@@ -1,0 +1,6 @@
+use Rattle.nonzero_entries.specs.EntryLaws.{eight_zeros}
+use borrow.Author.Rules.{rules}
+use Rattle.nonzero_entries.proofs.eight_joined.Goals as goal
+
+pub returns : goal.returns
+returns c = eight_zeros c.args.table.now c.args.from

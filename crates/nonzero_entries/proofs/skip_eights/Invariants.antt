@@ -1,0 +1,13 @@
+use borrow.Author.Rules.{rules}
+use Prim.Native.Nat.{◌-◌}
+use native.Mathlib.Omega.{arith}
+use lib.ListN.{length}
+use Rattle.nonzero_entries.specs.Entries.{Skipped}
+use Rattle.nonzero_entries.specs.EntryLaws.{none_skipped, many_skipped}
+use Rattle.nonzero_entries.proofs.skip_eights.Given as goal
+
+abbrev pub invariant-loop-code : goal.invariant-loop-code
+invariant-loop-code l = Skipped l.table l.from l.code
+
+abbrev pub decreases-loop-code : goal.decreases-loop-code
+decreases-loop-code l = length l.table - l.code

@@ -1,0 +1,14 @@
+use mathlib.Core.Path.{ap, ◌∙◌}
+use Prim.Native.Nat.{ℕ, ◌*◌, ◌-◌, ◌%◌}
+use native.Mathlib.Omega.{arith}
+use lib.ListN.{length}
+use Rattle.definitions.specs.Sums.{at}
+use Rattle.theory.specs.Convolution.{point_table}
+use Rattle.pointwise.specs.Filling.{Filling, fresh, unset, next, full_residues}
+use Rattle.pointwise.proofs.multiply.Given as goal
+
+abbrev pub invariant-loop-i : goal.invariant-loop-i
+invariant-loop-i l = Filling (λ S. at l.initial.table S * at l.other S % l.modulus.value) l.initial.table l.i l.table
+
+abbrev pub decreases-loop-i : goal.decreases-loop-i
+decreases-loop-i l = length l.initial.table - l.i

@@ -1,0 +1,14 @@
+use mathlib.Core.Path.{refl}
+use Prim.Native.Nat.{◌-◌, ◌^◌, ◌<◌}
+use native.Mathlib.Omega.{arith}
+use lib.ListN.{length}
+use Rattle.ranked_theory.specs.Layout.{place_in}
+use Rattle.ranked_theory.specs.Tables.{Laying, laying_none, laying_more, laying_all}
+use borrow.Author.Rules.{rules}
+use Rattle.ranked.proofs.lay_out.Given as goal
+
+abbrev pub invariant-loop-h : goal.invariant-loop-h
+invariant-loop-h l = Laying l.n l.side l.a l.initial.rows l.rows l.h
+
+abbrev pub decreases-loop-h : goal.decreases-loop-h
+decreases-loop-h l = length l.a - l.h

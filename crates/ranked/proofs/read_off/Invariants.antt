@@ -1,0 +1,14 @@
+use mathlib.Core.Path.{refl}
+use Prim.Native.Nat.{◌-◌, ◌^◌, ◌<◌}
+use native.Mathlib.Omega.{arith}
+use lib.ListN.{length}
+use Rattle.ranked_theory.specs.Layout.{result_in_lem}
+use Rattle.ranked_theory.specs.Tables.{Reading, reading_none, reading_more, reading_all}
+use borrow.Author.Rules.{rules}
+use Rattle.ranked.proofs.read_off.Given as goal
+
+abbrev pub invariant-loop-h : goal.invariant-loop-h
+invariant-loop-h l = Reading l.n l.rows l.initial.res l.res l.h
+
+abbrev pub decreases-loop-h : goal.decreases-loop-h
+decreases-loop-h l = length l.initial.res - l.h

@@ -1,0 +1,16 @@
+use mathlib.Core.Path.{◌≡◌, sym, ap}
+use Prim.Native.Nat.{ℕ, ◌+◌, ◌-◌, ◌*◌, ◌^◌, ◌<◌}
+use native.Mathlib.Omega.{arith}
+use lib.Pow.{pow_mono}
+use Rattle.definitions.specs.Sets.{size}
+use Rattle.theory.specs.Codes.{size-le, size_zero}
+use Rattle.ranked_theory.specs.Rows.{Subtracted, back_from, back_count}
+use Rattle.ranked_theory.specs.RowSteps.{Passing, passing_none, passing_ready, passing_more, passing_all, row_ready_as, row_step_as}
+use borrow.Author.Rules.{rules}
+use Rattle.ranked_rows.proofs.subtract_lower.Given as goal
+
+abbrev pub invariant-loop-u : goal.invariant-loop-u
+invariant-loop-u l = (l.low.0 ≡ size l.u) × Passing (λ v. Subtracted l.modulus.value l.w l.e.0 (size v + l.d.0)) 1 l.w l.p l.half l.mid l.initial.rows l.rows l.u
+
+abbrev pub decreases-loop-u : goal.decreases-loop-u
+decreases-loop-u l = l.half - l.u

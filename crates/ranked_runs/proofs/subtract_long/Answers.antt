@@ -1,0 +1,39 @@
+use native.Mathlib.Omega.{arith}
+use Prim.Native.Nat.{◌+◌, ◌-◌}
+use Rattle.ranked_theory.specs.Rows.{minus}
+use Rattle.ranked_theory.specs.Runs.{Running, running_none, running_more, later_ready, piece_ready, run_over, taken_placed}
+use borrow.Author.Rules.{rules}
+use Rattle.ranked_runs.proofs.subtract_long.Goals as goal
+
+pub differences-back-requires : goal.differences-back-requires
+differences-back-requires c = record { valid = c.requires.valid; run_ready = piece_ready _ _ _ _ 4 _ _ c.requires.run_ready (omega arith) }
+
+pub loop-i-init : goal.loop-i-init
+loop-i-init c = running_none _ _ _ _ _
+
+pub differences-next-requires : goal.differences-next-requires
+differences-next-requires c = let v = c.loop-i.invariant in record { valid = c.requires.valid; run_ready = later_ready (minus c.args.modulus.value) _ _ _ _ 4 _ c.args.rows.now _ c.requires.run_ready v.done v.long (omega (arith, c.loop-i-test.true)) }
+
+pub store_four-requires : goal.store_four-requires
+store_four-requires c = omega (arith, c.loop-i.invariant.long, c.requires.run_ready.long, c.loop-i-test.true)
+
+pub loop-i-preserved : goal.loop-i-preserved
+loop-i-preserved c = let a = c.args in
+    let at = c.loop-i in
+    let op = minus a.modulus.value in
+    running_more op a.modulus.value a.lo a.hi (a.last + 4) a.rows.now _ _ at.i 4 c.requires.run_ready at.invariant
+    (taken_placed op (a.lo + at.i) (a.hi + at.i) _ _ _ _ _ c.differences-next.ensures _ _ c.store_four.ensures)
+    c.store_four.auto.rows
+    (omega (arith, c.loop-i-test.true))
+
+pub store_four-requires-2 : goal.store_four-requires-2
+store_four-requires-2 c = omega (arith, c.loop-i.invariant.long, c.requires.run_ready.long)
+
+pub returns : goal.returns
+returns c = let a = c.args in
+    let at = c.loop-i in
+    let op = minus a.modulus.value in
+    run_over op a.lo a.hi at.i a.last a.rows.now _ _ at.invariant.done
+    (taken_placed op (a.lo + a.last) (a.hi + a.last) a.rows.now _ _ _ _ c.differences-back.ensures _ _ c.store_four-2.ensures)
+    (omega (arith, c.loop-i-test.false))
+    at.invariant.turn

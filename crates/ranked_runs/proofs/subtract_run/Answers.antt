@@ -1,0 +1,19 @@
+use native.Mathlib.Omega.{arith}
+use Rattle.ranked_theory.specs.Rows.{minus}
+use Rattle.ranked_theory.specs.Runs.{fewer_ready, run-counted}
+use borrow.Author.Rules.{rules}
+use Rattle.ranked_runs.proofs.subtract_run.Goals as goal
+
+pub subtract_ends-requires : goal.subtract_ends-requires
+subtract_ends-requires c = let many = c.if-count-lt4.false in record { valid = c.requires.valid; run_ready = fewer_ready _ _ _ _ _ _ c.requires.run_ready (omega (arith, many)); last_bound = omega (arith, c.if-last-le4.true) }
+
+pub subtract_long-requires : goal.subtract_long-requires
+subtract_long-requires c = let many = c.if-count-lt4.false in record { valid = c.requires.valid; run_ready = fewer_ready _ _ _ _ _ _ c.requires.run_ready (omega (arith, many)) }
+
+pub returns-then-last-le4 : goal.returns-then-last-le4
+returns-then-last-le4 c = let a = c.args in
+    run-counted (minus a.modulus.value) a.lo a.hi _ a.count _ _ c.subtract_ends.ensures (omega (arith, c.if-count-lt4.false))
+
+pub returns-else-last-le4 : goal.returns-else-last-le4
+returns-else-last-le4 c = let a = c.args in
+    run-counted (minus a.modulus.value) a.lo a.hi _ a.count _ _ c.subtract_long.ensures (omega (arith, c.if-count-lt4.false))

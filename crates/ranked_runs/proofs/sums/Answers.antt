@@ -1,0 +1,16 @@
+use native.Mathlib.Omega.{arith}
+use Rattle.ranked_theory.specs.Runs.{first_ready, pair_ready}
+use borrow.Author.Rules.{rules}
+use Rattle.ranked_runs.proofs.sums.Goals as goal
+
+pub sum_at-requires : goal.sum_at-requires
+sum_at-requires c = record { valid = c.requires.valid; pair_ready = first_ready _ _ _ _ _ c.requires.run_ready (omega arith) }
+
+pub sum_at-requires-2 : goal.sum_at-requires-2
+sum_at-requires-2 c = record { valid = c.requires.valid; pair_ready = pair_ready _ _ _ _ 1 _ c.requires.run_ready (omega arith) }
+
+pub sum_at-requires-3 : goal.sum_at-requires-3
+sum_at-requires-3 c = record { valid = c.requires.valid; pair_ready = pair_ready _ _ _ _ 2 _ c.requires.run_ready (omega arith) }
+
+pub sum_at-requires-4 : goal.sum_at-requires-4
+sum_at-requires-4 c = record { valid = c.requires.valid; pair_ready = pair_ready _ _ _ _ 3 _ c.requires.run_ready (omega arith) }
