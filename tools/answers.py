@@ -83,7 +83,7 @@ class Turn:
         out = []
         if self.rec and callee == self.own and rest[:2] == ["requires", "1"]:
             rest = ["requires"] + rest[2:]
-        if self.rec and callee == self.own and rest[:2] == ["requires", "0"]:
+        elif self.rec and callee == self.own and rest[:2] == ["requires", "0"]:
             rest = ["decreases"]
         i = 0
         while i < len(rest):
@@ -104,8 +104,13 @@ class Turn:
                 else:
                     out.append(rest[i])
             i += 1
-        if "auto" in out and callee in LENT and len(LENT[callee]) == 1 and out[-1].isdigit():
-            out = out[: out.index("auto") + 1] + LENT[callee]
+        for word in ("auto", "new"):
+            if word in out and callee in PARAMS:
+                k = i = out.index(word) + 1
+                while k < len(out) and out[k] == "1":
+                    k += 1
+                if k < len(out) and out[k] == "0" and k - i < len(PARAMS[callee]):
+                    out = out[:i] + [PARAMS[callee][k - i]] + out[k + 1:]
         return out
 
     def path(self, w, env, goal):
@@ -132,6 +137,8 @@ class Turn:
                         if way or new.endswith("-own"):
                             return ".".join(["c", arm[0]] + ([new] if way else []) + rest[1 + len(way):]), None
             up = self.parent.get(up)
+        if rest[0].replace("-", "_") == "well_formed":
+            rest[0] = "well_formed"
         if rest[:2] == ["args", "result"] and "res" in PARAMS.get(self.own, []):
             rest[1] = "res"
         if rest[0] in ("args", "requires", "ranges", "auto", "well_formed", "told", "utf8"):
@@ -175,6 +182,9 @@ class Turn:
             new, p = self.path(w, env, goal)
             if p is None:
                 return new
+            if re.match(r"\s+=\s", text[m.end():]):
+                # a field's label
+                return w
             before = re.search(r"([^\s(){},;]+)\s+" + ("t\\s+" if self.rec else "") + "$", text[: m.start()])
             if before and before[1] in self.helpers:
                 p = self.helpers[before[1]]
@@ -185,6 +195,10 @@ class Turn:
             return f"(goal.at.{goal} {'t ' * self.rec}c).{self.newplace[p]}"
 
         text = PATH.sub(one, text)
+        for kind, names in (("requires", self.clauses(self.own, "requires")),):
+            if len(names) > 1:
+                for m in list(re.finditer(r"let (\S+) = c\.requires in", text)):
+                    text = re.sub(rf"(?<![\w.-]){re.escape(m[1])}\.(\d)(?!\d)", lambda x: f"{m[1]}.{names[int(x[1])]}" if int(x[1]) < len(names) else x[0], text)
         # a test's fact stands beside its value now
         text = re.sub(r"\(eqb-(?:true|false) _ _ (c\.[^\s()]+)\.(true|false)-raw\)", r"\1.\2", text)
         text = re.sub(r"eqb-(?:true|false) _ _ (c\.[^\s()]+)\.(true|false)-raw", r"\1.\2", text)
@@ -192,11 +206,25 @@ class Turn:
             for m in re.finditer(r"let (\S+) = c\.(args|loop-\w+) in", text):
                 text = re.sub(rf"(?<![\w.-]){re.escape(m[1])}\.result(?![\w-])", f"{m[1]}.res", text)
             text = re.sub(r"(?<![\w.-])c\.(args|loop-[\w]+)\.result(?![\w-])", r"c.\1.res", text)
-        # what a call kept of the one thing that it was lent, through a name for the call
-        for m in re.finditer(r"let (\S+) = c\.(\S+) in", text):
+        # through a name for a call, or for what it ensures
+        for m in list(re.finditer(r"let (\S+) = c\.(\S+?)(\.ensures)? in", text)):
             for p in self.d["places"]:
-                if p[2][1] == m[2] and p[3] in LENT and len(LENT[p[3]]) == 1:
-                    text = re.sub(rf"(?<![\w.-]){re.escape(m[1])}\.auto(\.\d)+", f"{m[1]}.auto.{LENT[p[3]][0]}", text)
+                if p[2][1] != m[2] or p[3] not in PARAMS:
+                    continue
+                name = rf"(?<![\w.-]){re.escape(m[1])}"
+                clauses = self.clauses(p[3], "ensures")
+
+                def param(x, p=p, m=m):
+                    k = x[2].count("1")
+                    return f"{m[1]}.{x[1]}.{PARAMS[p[3]][k]}" if k < len(PARAMS[p[3]]) else x[0]
+
+                def clause(x, m=m, dot=".ensures" if not m[3] else ""):
+                    return f"{m[1]}{dot}.{clauses[int(x[1])]}" if int(x[1]) < len(clauses) else x[0]
+
+                if not m[3]:
+                    text = re.sub(name + r"\.(auto|new)\.((?:1\.)*)0(?!\d)", param, text)
+                if len(clauses) > 1:
+                    text = re.sub(name + (r"\.ensures" if not m[3] else "") + r"\.(\d)(?!\d)", clause, text)
         return text
 
 
@@ -269,7 +297,13 @@ def as_record(text, names):
         tail = tail[end:]
     parts = flatten(tail, len(names))
     if parts is None:
-        return text
+        t = tail.strip()
+        m = re.match(r"(?s)rw ((?:\([^()]*(?:\([^()]*\)[^()]*)*\))|\S+) (\(.*\))$", t)
+        if m and flatten(m[2], len(names)):
+            return head + f" rw {m[1]} (record {{ " + "; ".join(f"{n} = {p}" for n, p in zip(names, flatten(m[2], len(names)))) + " })"
+        if t.startswith(("record", "search", "omega", "grind", "elim", "rw", "simp", "λ", "absurd")):
+            return text
+        return head + f" let all = {t} in record {{ " + "; ".join(f"{n} = all.{k}" for k, n in enumerate(names)) + " }"
     inner = "; ".join(f"{n} = {p}" for n, p in zip(names, parts) if p != "search rules" or True)
     return head + " record { " + inner + " }"
 
@@ -359,7 +393,8 @@ def turn_file(crate, folder, key, d, known, own):
             continue
         mm = re.match(r"tie\.Need-(\S+)(.*)", rest)
         if mm:
-            new = T.needs.get(norm(mm[1]))
+            n = norm(mm[1])
+            new = T.needs.get(n) or T.needs.get(re.sub(r"result(?=$|-)", "res", n)) or T.needs.get(n.replace("slice-bounds-", "part-"))
             if new is None:
                 if mm[1] and "search rules" not in text:
                     T.left.append("no goal " + mm[1])
@@ -419,10 +454,11 @@ def turn_file(crate, folder, key, d, known, own):
                 continue
         helpers.append((note + text, name, True))
     # what several goals share: a lemma of their common place, or a let in each
-    for note, name, text in reversed(shared):
+    for at_, (note, name, text) in enumerate(shared):
+        note, name, text = shared[at_]
         call = re.compile(r"(?<![\w-])%s (?:t )?(?:c(?![\w.-])|\(goal\.at\.\S+ (?:t )?c\)\.[\w-]+|c\.[A-Z][\w-]*)" % re.escape(name))
         users = [i for i, a in enumerate(ans) if call.search(a)]
-        others = [x for x in shared if x[1] != name and call.search(x[2])]
+        others = [i for i in range(at_ + 1, len(shared)) if call.search(shared[i][2])]
         at = {T.at[re.search(r"goal\.(\S+)", ans[i])[1]][1] for i in users}
         if len(at) == 1 and not others and not T.alone:
             place_ = at.pop()
@@ -446,8 +482,10 @@ def turn_file(crate, folder, key, d, known, own):
                 T.left.append("unfolding of " + name)
                 continue
             ans[i] = m[1] + f"\n    let {name} : {typ} = {val} in" + m[2]
-        for x in others:
-            T.left.append(f"{name} in {x[1]}")
+        for i in others:
+            a = call.sub(name, shared[i][2])
+            m = re.match(r"(?s)(.*?\n(?:unfolding [^\n]*\n)?%s (?:t )?c[^=]*=)(.*)" % re.escape(shared[i][1]), a)
+            shared[i] = (shared[i][0], shared[i][1], m[1] + f"\n    let {name} : {typ} = {val} in" + m[2])
     # an answer that cites another goal's proof, which a search finds here too
     ans = [re.sub(r"\((?:%s) (?:t )?c\)" % "|".join(map(re.escape, T.gone or {"-"})), "(search rules)", a) for a in ans]
     for name, new in T.kept.items():

@@ -26,7 +26,7 @@ pub multiply-requires : goal.multiply-requires
 multiply-requires c = let i = c.loop-i.i in record {
   valid = c.requires.ready.valid;
   below = record {
-    c = rw (unset c.loop-i.invariant) (c.requires.ready_2.table.below i);
+    first = rw (unset c.loop-i.invariant) (c.requires.ready_2.table.below i);
     second = c.requires.ready.table.below i;
   };
 }

@@ -16,7 +16,7 @@ pub bounds-table-i : goal.bounds-table-i
 bounds-table-i c = omega arith
 
 pub multiply-requires : goal.multiply-requires
-multiply-requires c = let i = c.loop-i.i in record { valid = c.requires.ready.valid; below = record { c = c.requires.factor_lt_value; second = rw (unset c.loop-i.invariant) (c.requires.ready.table.below i) } }
+multiply-requires c = let i = c.loop-i.i in record { valid = c.requires.ready.valid; below = record { first = c.requires.factor_lt_value; second = rw (unset c.loop-i.invariant) (c.requires.ready.table.below i) } }
 
 pub offset_bounds-table-i-in-loop-i : goal.offset_bounds-table-i-in-loop-i
 offset_bounds-table-i-in-loop-i c = omega arith

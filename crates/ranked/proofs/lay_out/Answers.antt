@@ -25,7 +25,7 @@ bounds-rows-to c =
 pub loop-h-preserved : goal.loop-h-preserved
 loop-h-preserved c =
     let code : c.loop-h.h < 2 ^ c.args.n = omega (arith, c.loop-h-test.true, c.requires.room.table) in let s = c.requires in
-    laying_more c.loop-h.invariant s.1 (code) s.0.long _ _ c.place-to.ensures refl
+    laying_more c.loop-h.invariant s.side_bound (code) s.room.long _ _ c.place-to.ensures refl
 
 pub shape_of-rows : goal.shape_of-rows
 shape_of-rows c = c.loop-h.invariant.long

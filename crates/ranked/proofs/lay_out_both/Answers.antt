@@ -8,16 +8,18 @@ use Rattle.ranked_theory.specs.Tables.{LayingBoth, laying_both_none, laying_both
 use borrow.Author.Rules.{rules}
 use Rattle.ranked.proofs.lay_out_both.Goals as goal
 
-right-in : (c : goal.After-shared_slice_known-in-loop-h-2-1) → c.place-right.result < length c.loop-h.rows
-right-in c =
-    let s = c.requires.room in
-    omega (arith, c.place-right.ensures, place_in _ 1 _ (omega arith) (code c.In-loop-h), s.long, c.loop-h.invariant.long)
-
 -- both places are in the rows
 left_in : (c : goal.After-shared_slice_known-in-loop-h-1) → c.place-left.result < length c.loop-h.rows
 left_in c =
+    let code : c.loop-h.h < 2 ^ c.args.n = omega (arith, c.loop-h-test.true, c.requires.room.table) in
     let s = c.requires.room in
-    omega (arith, c.place-left.ensures, place_in _ 0 _ (omega arith) (code c.In-loop-h), s.long, c.loop-h.invariant.long)
+    omega (arith, c.place-left.ensures, place_in _ 0 _ (omega arith) (code), s.long, c.loop-h.invariant.long)
+
+right-in : (c : goal.After-shared_slice_known-in-loop-h-2-1) → c.place-right.result < length c.loop-h.rows
+right-in c =
+    let code : c.loop-h.h < 2 ^ c.args.n = omega (arith, c.loop-h-test.true, c.requires.room.table) in
+    let s = c.requires.room in
+    omega (arith, c.place-right.ensures, place_in _ 1 _ (omega arith) (code), s.long, c.loop-h.invariant.long)
 
 pub loop-h-init : goal.loop-h-init
 loop-h-init c = laying_both_none _ _ _ _
@@ -39,12 +41,12 @@ bounds-rows-left c = left_in c
 pub offset_bounds-b-h : goal.offset_bounds-b-h
 offset_bounds-b-h c =
     let code : c.loop-h.h < 2 ^ c.args.n = omega (arith, c.loop-h-test.true, c.requires.room.table) in let s = c.requires in
-    omega (arith, code, s.1.table)
+    omega (arith, code, s.room_2.table)
 
 pub bounds-b-h : goal.bounds-b-h
 bounds-b-h c =
     let code : c.loop-h.h < 2 ^ c.args.n = omega (arith, c.loop-h-test.true, c.requires.room.table) in let s = c.requires in
-    omega (arith, code, s.1.table)
+    omega (arith, code, s.room_2.table)
 
 pub offset_bounds-rows-right : goal.offset_bounds-rows-right
 offset_bounds-rows-right c = omega (arith, right-in c)

@@ -14,6 +14,16 @@ pub result_place-from-requires : goal.result_place-from-requires
 result_place-from-requires c =
     let code : c.loop-h.h < 2 ^ c.args.n = omega (arith, c.loop-h-test.true, c.requires.table, c.loop-h.invariant.long) in (c.requires.few, code)
 
+pub offset_bounds-rows-from : goal.offset_bounds-rows-from
+offset_bounds-rows-from c =
+    let code : c.loop-h.h < 2 ^ c.args.n = omega (arith, c.loop-h-test.true, c.requires.table, c.loop-h.invariant.long) in let s = c.requires in
+    omega (arith, c.result_place-from.ensures, result_in_lem _ _ (code), s.long)
+
+pub bounds-rows-from : goal.bounds-rows-from
+bounds-rows-from c =
+    let code : c.loop-h.h < 2 ^ c.args.n = omega (arith, c.loop-h-test.true, c.requires.table, c.loop-h.invariant.long) in let s = c.requires in
+    omega (arith, c.result_place-from.ensures, result_in_lem _ _ (code), s.long)
+
 pub loop-h-smaller : goal.loop-h-smaller
 loop-h-smaller c = omega (arith, c.loop-h-test.true, c.loop-h.invariant.long)
 

@@ -1,0 +1,13 @@
+use mathlib.Core.Path.{◌≡◌, refl, sym, ◌∙◌}
+use lib.ListN.{drop}
+use Rattle.definitions.specs.Limits.{most_controls}
+use Rattle.label_sheet.proofs.SheetSteps.{labels_number, labels_stop, labels_more, with_tail, without_tail}
+use borrow.Author.Rules.{rules}
+use Rattle.label_sheet.proofs.read_label.Reads as read-label-reads
+use Rattle.label_sheet.proofs.labels_word.Given as goal
+
+abbrev pub invariant-loop-left : goal.invariant-loop-left
+invariant-loop-left l = labels_number most_controls l.sheet ≡ labels_number l.left (drop l.place l.sheet)
+
+abbrev pub decreases-loop-left : goal.decreases-loop-left
+decreases-loop-left l = l.left

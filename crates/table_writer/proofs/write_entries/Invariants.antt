@@ -1,0 +1,12 @@
+use mathlib.Core.Path.{refl}
+use Prim.Native.Nat.{◌-◌}
+use lib.ListN.{length}
+use Rattle.table_writer.proofs.WriterSteps.{EntriesLeft, room, entry_written, entries_written}
+use borrow.Author.Rules.{rules}
+use Rattle.table_writer.proofs.write_entries.Given as goal
+
+abbrev pub invariant-loop-i : goal.invariant-loop-i
+invariant-loop-i l = EntriesLeft l.table l.at l.initial.buffer l.buffer l.place l.i
+
+abbrev pub decreases-loop-i : goal.decreases-loop-i
+decreases-loop-i l = length l.table - l.i
