@@ -49,9 +49,31 @@ PARAMS = {}
 
 
 def norm(s):
+    s = re.sub(r"_lem(?=-|$)", "", s)
     for w in ("overflow-", "nonzero-"):
         s = s.replace(w, "")
     return s.replace("_", "-")
+
+
+def clause_of(names, m):
+    steps = m[2].split(".")[1:]
+    got = named(names, steps)
+    return ".".join([m[1], got[0]] + steps[got[1]:]) if got else m[0]
+
+
+def named(names, steps):
+    """The clause that steps through pairs of pairs lead to, and how many steps that takes; None for a lone clause or part of them."""
+    if len(names) < 2:
+        return None
+    k = i = 0
+    while k < len(names) - 1:
+        if i >= len(steps) or steps[i] not in ("0", "1"):
+            return None
+        i += 1
+        if steps[i - 1] == "0":
+            break
+        k += 1
+    return names[k], i
 
 
 class Turn:
@@ -89,20 +111,10 @@ class Turn:
         while i < len(rest):
             out.append(rest[i])
             if rest[i] in ("ensures", "requires") and i + 1 < len(rest) and rest[i + 1].isdigit():
-                names = self.clauses(callee, rest[i])
-                k = int(rest[i + 1])
-                i += 1
-                # the old product nests to the right
-                while k == 1 and i + 1 < len(rest) and rest[i + 1] in ("0", "1") and len(names) > 2:
-                    i += 1
-                    k += int(rest[i])
-                    names = names[:]
-                    if k == 1 or k == len(names) - 1:
-                        break
-                if len(names) > 1 and k < len(names):
-                    out.append(names[k])
-                else:
-                    out.append(rest[i])
+                got = named(self.clauses(callee, rest[i]), rest[i + 1:])
+                if got:
+                    out.append(got[0])
+                    i += got[1]
             i += 1
         for word in ("auto", "new"):
             if word in out and callee in PARAMS:
@@ -134,8 +146,12 @@ class Turn:
             if arm:
                 for new, step, way in sorted(arm[2], key=lambda x: -len(x[2])):
                     if norm(step) == norm(rest[0]) and rest[1: 1 + len(way)] == way:
+                        if len(rest) == 1 and not new.endswith("-own") and way:
+                            continue
                         if way or new.endswith("-own"):
                             return ".".join(["c", arm[0]] + ([new] if way else []) + rest[1 + len(way):]), None
+                if len(rest) == 1 and any(way and norm(step) == norm(rest[0]) for _, step, way in arm[2]):
+                    return "c." + arm[0], None
             up = self.parent.get(up)
         if rest[0].replace("-", "_") == "well_formed":
             rest[0] = "well_formed"
@@ -198,7 +214,7 @@ class Turn:
         for kind, names in (("requires", self.clauses(self.own, "requires")),):
             if len(names) > 1:
                 for m in list(re.finditer(r"let (\S+) = c\.requires in", text)):
-                    text = re.sub(rf"(?<![\w.-]){re.escape(m[1])}\.(\d)(?!\d)", lambda x: f"{m[1]}.{names[int(x[1])]}" if int(x[1]) < len(names) else x[0], text)
+                    text = re.sub(rf"(?<![\w.-])({re.escape(m[1])})((?:\.\d)+)(?!\d)", lambda x: clause_of(names, x), text)
         # a test's fact stands beside its value now
         text = re.sub(r"\(eqb-(?:true|false) _ _ (c\.[^\s()]+)\.(true|false)-raw\)", r"\1.\2", text)
         text = re.sub(r"eqb-(?:true|false) _ _ (c\.[^\s()]+)\.(true|false)-raw", r"\1.\2", text)
@@ -206,6 +222,13 @@ class Turn:
             for m in re.finditer(r"let (\S+) = c\.(args|loop-\w+) in", text):
                 text = re.sub(rf"(?<![\w.-]){re.escape(m[1])}\.result(?![\w-])", f"{m[1]}.res", text)
             text = re.sub(r"(?<![\w.-])c\.(args|loop-[\w]+)\.result(?![\w-])", r"c.\1.res", text)
+        # through a name for an arm
+        for m in list(re.finditer(r"let (\S+) = c\.(in-\S+|in_\S+) in", text)):
+            for arm in self.arms.values():
+                if arm and arm[0] == m[2]:
+                    for new, step, way in arm[2]:
+                        if way:
+                            text = re.sub(rf"(?<![\w.-]){re.escape(m[1])}\.{re.escape('.'.join(way))}(?!\d)", f"{m[1]}.{new}", text)
         # through a name for a call, or for what it ensures
         for m in list(re.finditer(r"let (\S+) = c\.(\S+?)(\.ensures)? in", text)):
             for p in self.d["places"]:
@@ -218,13 +241,10 @@ class Turn:
                     k = x[2].count("1")
                     return f"{m[1]}.{x[1]}.{PARAMS[p[3]][k]}" if k < len(PARAMS[p[3]]) else x[0]
 
-                def clause(x, m=m, dot=".ensures" if not m[3] else ""):
-                    return f"{m[1]}{dot}.{clauses[int(x[1])]}" if int(x[1]) < len(clauses) else x[0]
-
                 if not m[3]:
                     text = re.sub(name + r"\.(auto|new)\.((?:1\.)*)0(?!\d)", param, text)
                 if len(clauses) > 1:
-                    text = re.sub(name + (r"\.ensures" if not m[3] else "") + r"\.(\d)(?!\d)", clause, text)
+                    text = re.sub("(" + name + (r"\.ensures" if not m[3] else "") + r")((?:\.\d)+)(?!\d)", lambda x: clause_of(clauses, x), text)
         return text
 
 
@@ -258,7 +278,11 @@ def flatten(t, n):
     while len(parts) < n:
         more = split_tuple(parts[-1])
         if more is None:
-            return None
+            if not re.fullmatch(r"[\w.-]+", parts[-1]):
+                return None
+            # what is left of a product that has a name
+            rest, k = parts.pop(), n - len(parts)
+            return parts + [f"{rest}{'.1' * j}{'.0' if j < k - 1 else ''}" for j in range(k)]
         parts[-1:] = more
     if len(parts) > n:
         # the last parts belong to the last clause
@@ -303,7 +327,7 @@ def as_record(text, names):
             return head + f" rw {m[1]} (record {{ " + "; ".join(f"{n} = {p}" for n, p in zip(names, flatten(m[2], len(names)))) + " })"
         if t.startswith(("record", "search", "omega", "grind", "elim", "rw", "simp", "λ", "absurd")):
             return text
-        return head + f" let all = {t} in record {{ " + "; ".join(f"{n} = all.{k}" for k, n in enumerate(names)) + " }"
+        return head + f" let all = {t} in record {{ " + "; ".join(f"{n} = all{'.1' * k}{'.0' if k < len(names) - 1 else ''}" for k, n in enumerate(names)) + " }"
     inner = "; ".join(f"{n} = {p}" for n, p in zip(names, parts) if p != "search rules" or True)
     return head + " record { " + inner + " }"
 
@@ -321,6 +345,11 @@ def turn_file(crate, folder, key, d, known, own):
         t = re.sub(r"\(t : ℕ\) → [\w-]+-lts\.(Need-\S+)[^\n]*", r"tie.\1", t)
         t = re.sub(r"\(t : ℕ\) \((\w+) : [\w-]+-lts\.([A-Z]\S*) \(calls t\) \([\w-]+ t\) \S+?\)", r"(t : ℕ) (\1 : tie.\2)", t)
         t = re.sub(r"(?m)^use (borrow\.Fn|Rattle\.\S+\.(Reads|Kinds|Lts-\S+) as|Rattle\.\S+\.proofs\.\+\w+\.).*\n", "", t)
+    # a place that stands for another one: fields are found by their names
+    for m in list(re.finditer(r"(?m)^(?:--[^\n]*\n)*(?:abbrev )?(\S+) : (?:\(\w+ : tie\.\S+\)|tie\.[A-Z]\S*) → tie\.[A-Z]\S*\n\1 (\w+) = \2(?:\.before)+\n", t)):
+        t = t.replace(m[0], "")
+        t = re.sub(r"\(%s (\S+?)\)" % re.escape(m[1]), r"\1", t)
+    t = re.sub(r"(?m)^((?:abbrev )?\S+) : (tie\.[A-Z]\S*(?: invariant-\S+ decreases-\S+)?) → ", r"\1 : (c : \2) → ", t)
     lines = t.split("\n")
     uses = []
     i = 0
@@ -443,12 +472,12 @@ def turn_file(crate, folder, key, d, known, own):
                     return f"({x[1]} : goal.{T.newplace[q]}{' t' * T.rec})" if q else x[0]
 
                 text = re.sub(r"\((\S+) : tie\.([A-Z][^\s)]*)[^)]*\)", typed, text)
-                head, _, tail = text.partition("\n")
                 first = next(iter(env.values()))
-                sig = re.match(r"(.*?goal\.[^)]*\))(.*)", head)
+                sig = re.match(r"(?s)(.*?goal\.[^)]*\))(.*)", text)
                 if sig:
-                    head = sig[1] + T.body(sig[2], env, None, first)
-                text = head + "\n" + T.body(tail, env, None, first)
+                    text = sig[1] + T.body(sig[2], env, None, first)
+                else:
+                    T.left.append("signature of " + name)
             if name in T.helpers:
                 shared.append((note, name, text))
                 continue
@@ -467,7 +496,7 @@ def turn_file(crate, folder, key, d, known, own):
                 ans[i] = call.sub(f"{name} {'t ' * T.rec}c", ans[i])
             helpers.append((note + text, name, True))
             continue
-        k = re.match(r"(?s)\S+ :\s*(?:\(t : ℕ\) )?\(c : goal\.[^)]*\)\s*((?:[({][^→]*[)}] )*)→ (.*?)\n((?:unfolding [^\n]*\n)?)%s (?:t )?c((?: \S+)*?) =(.*)" % re.escape(name), text)
+        k = re.match(r"(?s)(?:abbrev )?\S+ :\s*(?:\(t : ℕ\) )?\(c : goal\.[^)]*\)\s*((?:[({][^→]*[)}] )*)→ (.*?)\n((?:unfolding [^\n]*\n)?)%s (?:t )?c((?: \S+)*?) =(.*)" % re.escape(name), text)
         if not k:
             T.left.append("form of " + name)
             helpers.append((note + text, name, True))

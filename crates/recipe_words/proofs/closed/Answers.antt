@@ -16,7 +16,7 @@ pub bounds-code-used : goal.bounds-code-used
 bounds-code-used c = c.requires.used_in_bounds c.if-line-next.false
 
 pub overflow_add-result-3 : goal.overflow_add-result-3
-overflow_add-result-3 c = omega (arith, c.requires.used_in_bounds c.if-line-next.false, s.before.well-formed)
+overflow_add-result-3 c = omega (arith, c.requires.used_in_bounds c.if-line-next.false, c.well_formed)
 
 pub returns : goal.returns
 returns c = closed_call _ c.if-line-next.false c.if-line-next-ne41.false c.if-call-eq0.false (c.requires.used_in_bounds c.if-line-next.false)

@@ -18,5 +18,4 @@ returns-in-Refused c = let table = c.args.table.now in
     let buffer = c.args.buffer.now in
     let w =
     as_refused c.args.n c.args.m table c.check_table.ensures (file_of full c.args.n c.args.m table) buffer
-    (by_tests full c.args.n c.args.m table buffer) c.in-Refused.is in
-    rw c.refused.ensures (w.number_is, (w.count_is, w.buffer_is))
+    (by_tests full c.args.n c.args.m table buffer) c.in-Refused.is in rw c.refused.ensures (record { number_value = w.number_is; count_value = w.count_is; buffer_after = w.buffer_is })

@@ -1,0 +1,17 @@
+use mathlib.Core.Path.{◌≡◌, refl, ◌∙◌, ap₂}
+use mathlib.Core.List.{◌∷◌}
+use Prim.Native.Nat.{ℕ, ◌+◌, ◌%◌, ◌<◌, ◌≤◌, ◌-◌}
+use native.Mathlib.Omega.{arith}
+use lib.ListN.{length, get_or}
+use borrow.Author.Rules.{rules}
+use Rattle.definitions.specs.Sums.{at}
+use Rattle.theory.specs.Lists.{filled, filled_none, filled_all, turn, part}
+use Rattle.binomial.proofs.Pascal.{at-filled, left_more, left_below}
+use Rattle.binomial.specs.Rules.{pascal_at, row_width}
+use Rattle.binomial.proofs.next_pascal_row.Given as goal
+
+abbrev pub invariant-loop-j : goal.invariant-loop-j
+invariant-loop-j l = (l.j ≤ row_width) × (l.row ≡ filled (pascal_at l.modulus.value l.initial.row) l.j l.initial.row) × (l.left ≡ at (0 ∷ l.initial.row) l.j)
+
+abbrev pub decreases-loop-j : goal.decreases-loop-j
+decreases-loop-j l = row_width - l.j

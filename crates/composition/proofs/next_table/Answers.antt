@@ -1,0 +1,33 @@
+use native.Mathlib.Omega.{arith}
+use borrow.Author.Rules.{rules}
+use Rattle.composition.proofs.Places.{shift_is, within_ready, copy_ready, turned}
+use Rattle.composition.proofs.next_table.Goals as goal
+
+pub overflow_mul-shift : goal.overflow_mul-shift
+overflow_mul-shift c = let d = c.requires.turn_ready in
+    omega (arith, c.power_of_two-size.ensures, shift_is c.power_of_two-size.ensures d, d.inside)
+
+pub overflow_add-slot : goal.overflow_add-slot
+overflow_add-slot c = let d = c.requires.turn_ready in
+    omega (arith, c.power_of_two-size.ensures, shift_is c.power_of_two-size.ensures d, d.inside)
+
+pub overflow_add-next : goal.overflow_add-next
+overflow_add-next c = let d = c.requires.turn_ready in
+    omega (arith, c.power_of_two-size.ensures, shift_is c.power_of_two-size.ensures d, d.inside)
+
+pub overflow_add-next-2 : goal.overflow_add-next-2
+overflow_add-next-2 c = let d = c.requires.turn_ready in
+    omega (arith, c.power_of_two-size.ensures, shift_is c.power_of_two-size.ensures d, d.inside)
+
+pub multiply_within-requires : goal.multiply_within-requires
+multiply_within-requires c = record { valid = c.requires.valid; within_ready = within_ready c.power_of_two-size.ensures c.requires.turn_ready _ (omega arith) (omega arith) }
+
+pub overflow_add-slot-2 : goal.overflow_add-slot-2
+overflow_add-slot-2 c = let d = c.requires.turn_ready in
+    omega (arith, c.power_of_two-size.ensures, shift_is c.power_of_two-size.ensures d, d.inside)
+
+pub copy_table-requires : goal.copy_table-requires
+copy_table-requires c = copy_ready c.power_of_two-size.ensures c.requires.turn_ready _ c.multiply_within.auto.workspace
+
+pub returns : goal.returns
+returns c = turned c.power_of_two-size.ensures c.requires.turn_ready c.multiply_within.ensures c.copy_table.ensures

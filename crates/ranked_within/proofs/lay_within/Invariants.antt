@@ -1,0 +1,17 @@
+use mathlib.Core.Path.{refl}
+use Prim.Native.Nat.{◌+◌, ◌-◌, ◌^◌, ◌<◌}
+use native.Mathlib.Omega.{arith}
+use lib.ListN.{length, length-set}
+use Rattle.definitions.specs.Sums.{at}
+use Rattle.ranked_theory.specs.Layout.{rows_length, place_in}
+use Rattle.ranked_theory.specs.Tables.{LayingBoth, laying_both_none}
+use borrow.Author.Rules.{rules}
+use Rattle.ranked_within.specs.Within.{table_at}
+use Rattle.ranked_within.proofs.Loops.{laying_more, laying_all}
+use Rattle.ranked_within.proofs.lay_within.Given as goal
+
+abbrev pub invariant-loop-h : goal.invariant-loop-h
+invariant-loop-h l = LayingBoth l.k (table_at l.k l.source l.initial.workspace) l.b l.initial.workspace l.workspace l.h
+
+abbrev pub decreases-loop-h : goal.decreases-loop-h
+decreases-loop-h l = length l.b - l.h
