@@ -9,4 +9,4 @@ composition_table-requires c = let row = c.inverse_row-row in record { valid = c
 pub returns : goal.returns
 returns c = let row = c.inverse_row-row in
     logarithm_by_row c.args.n c.args.modulus.value row.result c.args.e.now (omega (arith, c.requires.ready.few))
-    c.before.before.composition_table_lem.ensures row.ensures
+    c.composition_table.ensures row.ensures

@@ -14,34 +14,34 @@ use Rattle.composition_calls.proofs.exponentials.exponential.Goals as goal
 
 pub pad_length-used-requires : goal.pad_length-used-requires
 pad_length-used-requires c =
-    let found : let s = c.args in Single s.n s.m s.a.now (length s.result.now) (length s.pad.now) = started _ _ _ _ _ _ (accepted c.check_start.ensures c.in-Accepted.is) in (found).range.few
+    let found : let s = c.args in Single s.n s.m s.a.now (length s.res.now) (length s.pad.now) = started _ _ _ _ _ _ (accepted c.check_start.ensures c.in-Accepted.is) in (found).range.few
 
 pub copy-requires : goal.copy-requires
 copy-requires c =
-    let found : let s = c.args in Single s.n s.m s.a.now (length s.result.now) (length s.pad.now) = started _ _ _ _ _ _ (accepted c.check_start.ensures c.in-Accepted.is) in let h = found in h.table.size ∙ sym h.result
+    let found : let s = c.args in Single s.n s.m s.a.now (length s.res.now) (length s.pad.now) = started _ _ _ _ _ _ (accepted c.check_start.ensures c.in-Accepted.is) in let h = found in h.table.size ∙ sym h.result
 
 pub slice_bounds-exponential_table-end : goal.slice_bounds-exponential_table-end
 slice_bounds-exponential_table-end c =
-    let lent : let s = c.args in Lent s.n c.pad_length-used.result s.pad.now = let found : let s = c.args in Single s.n s.m s.a.now (length s.result.now) (length s.pad.now) = started _ _ _ _ _ _ (accepted c.check_start.ensures c.in-Accepted.is) in record { used_is = c.pad_length-used.ensures; room = (found).pad } in used_in (lent)
+    let lent : let s = c.args in Lent s.n c.pad_length-used.result s.pad.now = let found : let s = c.args in Single s.n s.m s.a.now (length s.res.now) (length s.pad.now) = started _ _ _ _ _ _ (accepted c.check_start.ensures c.in-Accepted.is) in record { used_is = c.pad_length-used.ensures; room = (found).pad } in used_in (lent)
 
 pub slice_bounds-exponential_table-end-in-Accepted : goal.slice_bounds-exponential_table-end-in-Accepted
 slice_bounds-exponential_table-end-in-Accepted c =
-    let lent : let s = c.args in Lent s.n c.pad_length-used.result s.pad.now = let found : let s = c.args in Single s.n s.m s.a.now (length s.result.now) (length s.pad.now) = started _ _ _ _ _ _ (accepted c.check_start.ensures c.in-Accepted.is) in record { used_is = c.pad_length-used.ensures; room = (found).pad } in part_long (lent) (le_refl _)
+    let lent : let s = c.args in Lent s.n c.pad_length-used.result s.pad.now = let found : let s = c.args in Single s.n s.m s.a.now (length s.res.now) (length s.pad.now) = started _ _ _ _ _ _ (accepted c.check_start.ensures c.in-Accepted.is) in record { used_is = c.pad_length-used.ensures; room = (found).pad } in part_long (lent) (le_refl _)
 
 pub exponential_table-requires : goal.exponential_table-requires
 exponential_table-requires c =
-    let lent : let s = c.args in Lent s.n c.pad_length-used.result s.pad.now = let found : let s = c.args in Single s.n s.m s.a.now (length s.result.now) (length s.pad.now) = started _ _ _ _ _ _ (accepted c.check_start.ensures c.in-Accepted.is) in record { used_is = c.pad_length-used.ensures; room = (found).pad } in
-    let found : let s = c.args in Single s.n s.m s.a.now (length s.result.now) (length s.pad.now) = started _ _ _ _ _ _ (accepted c.check_start.ensures c.in-Accepted.is) in let s = c.check_start.ensures.stands _ c.in-Accepted.is in record { valid = s.valid; ready = copied (lent) (found) s _ c.copy.ensures }
+    let lent : let s = c.args in Lent s.n c.pad_length-used.result s.pad.now = let found : let s = c.args in Single s.n s.m s.a.now (length s.res.now) (length s.pad.now) = started _ _ _ _ _ _ (accepted c.check_start.ensures c.in-Accepted.is) in record { used_is = c.pad_length-used.ensures; room = (found).pad } in
+    let found : let s = c.args in Single s.n s.m s.a.now (length s.res.now) (length s.pad.now) = started _ _ _ _ _ _ (accepted c.check_start.ensures c.in-Accepted.is) in let s = c.check_start.ensures.stands _ c.in-Accepted.is in record { valid = s.valid; ready = copied (lent) (found) s _ c.copy.ensures }
 
 pub clear-requires : goal.clear-requires
 clear-requires c =
-    let lent : let s = c.args in Lent s.n c.pad_length-used.result s.pad.now = let found : let s = c.args in Single s.n s.m s.a.now (length s.result.now) (length s.pad.now) = started _ _ _ _ _ _ (accepted c.check_start.ensures c.in-Accepted.is) in record { used_is = c.pad_length-used.ensures; room = (found).pad } in let made = c.exponential_table in
+    let lent : let s = c.args in Lent s.n c.pad_length-used.result s.pad.now = let found : let s = c.args in Single s.n s.m s.a.now (length s.res.now) (length s.pad.now) = started _ _ _ _ _ _ (accepted c.check_start.ensures c.in-Accepted.is) in record { used_is = c.pad_length-used.ensures; room = (found).pad } in let made = c.exponential_table in
     omega (arith, clear_fits (lent) (le_refl _) made.new.workspace made.auto.workspace)
 
 pub returns-in-Accepted : goal.returns-in-Accepted
 unfolding exponential_number
 returns-in-Accepted c =
-    let lent : let s = c.args in Lent s.n c.pad_length-used.result s.pad.now = let found : let s = c.args in Single s.n s.m s.a.now (length s.result.now) (length s.pad.now) = started _ _ _ _ _ _ (accepted c.check_start.ensures c.in-Accepted.is) in record { used_is = c.pad_length-used.ensures; room = (found).pad } in let s = c.args in
+    let lent : let s = c.args in Lent s.n c.pad_length-used.result s.pad.now = let found : let s = c.args in Single s.n s.m s.a.now (length s.res.now) (length s.pad.now) = started _ _ _ _ _ _ (accepted c.check_start.ensures c.in-Accepted.is) in record { used_is = c.pad_length-used.ensures; room = (found).pad } in let s = c.args in
     let made = c.exponential_table in let all = accepted_call c.check_start.ensures c.in-Accepted.is
     (λ (m : ℕ). exponential_table s.n m s.a.now)
     (made.ensures ∙ ap (exponential_table s.n _) c.copy.ensures)

@@ -1,0 +1,8 @@
+use mathlib.Core.Path.{sym}
+use native.Mathlib.Omega.{arith}
+use lib.Seq.{set_out}
+use borrow.Author.Rules.{rules}
+use Rattle.board_laws.proofs.keep.Goals as goal
+
+pub returns-else-i-numbers : goal.returns-else-i-numbers
+returns-else-i-numbers c = let s = c.args in sym (set_out s.numbers.now s.i s.number (omega arith))
