@@ -346,9 +346,16 @@ def turn_file(crate, folder, key, d, known, own):
         t = re.sub(r"\(t : ℕ\) \((\w+) : [\w-]+-lts\.([A-Z]\S*) \(calls t\) \([\w-]+ t\) \S+?\)", r"(t : ℕ) (\1 : tie.\2)", t)
         t = re.sub(r"(?m)^use (borrow\.Fn|Rattle\.\S+\.(Reads|Kinds|Lts-\S+) as|Rattle\.\S+\.proofs\.\+\w+\.).*\n", "", t)
     # a place that stands for another one: fields are found by their names
-    for m in list(re.finditer(r"(?m)^(?:--[^\n]*\n)*(?:abbrev )?(\S+) : (?:\(\w+ : tie\.\S+\)|tie\.[A-Z]\S*) → tie\.[A-Z]\S*\n\1 (\w+) = \2(?:\.before)+\n", t)):
+    held = r"(?: invariant-\S+ decreases-\S+)?"
+    same = set()
+    for m in list(re.finditer(r"(?m)^(?:--[^\n]*\n)*(?:abbrev )?(\S+) : (?:\(\w+ : tie\.\S+%s\)|tie\.[A-Z]\S*%s) → tie\.[A-Z]\S*%s\n\1 (\w+) = (?:\S+ )?\2(?:\.before)*\n" % (held, held, held), t)):
         t = t.replace(m[0], "")
-        t = re.sub(r"\(%s (\S+?)\)" % re.escape(m[1]), r"\1", t)
+        same.add(m[1])
+    for _ in range(4):
+        for name in same:
+            t = re.sub(r"\(%s ([^\s()]+)\)" % re.escape(name), r"\1", t)
+            t = re.sub(r"= %s ([^\s()]+) in\b" % re.escape(name), r"= \1.before in", t)
+    t = t.replace(".pre.", ".requires.")
     t = re.sub(r"(?m)^((?:abbrev )?\S+) : (tie\.[A-Z]\S*(?: invariant-\S+ decreases-\S+)?) → ", r"\1 : (c : \2) → ", t)
     lines = t.split("\n")
     uses = []
@@ -483,38 +490,43 @@ def turn_file(crate, folder, key, d, known, own):
                 continue
         helpers.append((note + text, name, True))
     # what several goals share: a lemma of their common place, or a let in each
-    for at_, (note, name, text) in enumerate(shared):
-        note, name, text = shared[at_]
-        call = re.compile(r"(?<![\w-])%s (?:t )?(?:c(?![\w.-])|\(goal\.at\.\S+ (?:t )?c\)\.[\w-]+|c\.[A-Z][\w-]*)" % re.escape(name))
-        users = [i for i, a in enumerate(ans) if call.search(a)]
-        others = [i for i in range(at_ + 1, len(shared)) if call.search(shared[i][2])]
+    calls = {name: re.compile(r"(?<![\w.-])%s (?:t )?(?:c(?![\w.-])|\(goal\.at\.\S+ (?:t )?c\)\.[\w-]+|c\.[A-Z][\w-]*)" % re.escape(name)) for _, name, _ in shared}
+    lets = []
+    for note, name, text in shared:
+        users = [i for i, a in enumerate(ans) if calls[name].search(a)]
+        linked = any(calls[name].search(x[2]) for x in shared if x[1] != name) or any(calls[x[1]].search(text) for x in shared if x[1] != name)
         at = {T.at[re.search(r"goal\.(\S+)", ans[i])[1]][1] for i in users}
-        if len(at) == 1 and not others and not T.alone:
+        if len(at) == 1 and not linked:
             place_ = at.pop()
             text = re.sub(r"\((\S+) : goal\.[^)]*\)", f"(\\1 : goal.{place_}{' t' * T.rec})", text, count=1)
             for i in users:
-                ans[i] = call.sub(f"{name} {'t ' * T.rec}c", ans[i])
+                ans[i] = calls[name].sub(f"{name} {'t ' * T.rec}c", ans[i])
             helpers.append((note + text, name, True))
             continue
         k = re.match(r"(?s)(?:abbrev )?\S+ :\s*(?:\(t : ℕ\) )?\(c : goal\.[^)]*\)\s*((?:[({][^→]*[)}] )*)→ (.*?)\n((?:unfolding [^\n]*\n)?)%s (?:t )?c((?: \S+)*?) =(.*)" % re.escape(name), text)
-        if not k:
+        if not k or k[3]:
             T.left.append("form of " + name)
             helpers.append((note + text, name, True))
             continue
         typ = (k[1] + "→ " if k[1].strip() else "") + re.sub(r"\s+", " ", k[2].strip())
         val = ("λ" + k[4] + ". " if k[4].strip() else "") + k[5].strip()
-        for i in users:
-            a = call.sub(name, ans[i])
-            m = re.match(r"(?s)((?:--[^\n]*\n)*pub \S+ : \S+\n(?:unfolding [^\n]*\n)*\S+ (?:t )?c =)(.*)", a)
-            if k[3] and "unfolding" not in m[1]:
-                m = re.match(r"(?s)(.*)", a)
-                T.left.append("unfolding of " + name)
-                continue
-            ans[i] = m[1] + f"\n    let {name} : {typ} = {val} in" + m[2]
-        for i in others:
-            a = call.sub(name, shared[i][2])
-            m = re.match(r"(?s)(.*?\n(?:unfolding [^\n]*\n)?%s (?:t )?c[^=]*=)(.*)" % re.escape(shared[i][1]), a)
-            shared[i] = (shared[i][0], shared[i][1], m[1] + f"\n    let {name} : {typ} = {val} in" + m[2])
+        lets.append((name, typ, val))
+    for i, a in enumerate(ans):
+        need_, grew = set(), True
+        while grew:
+            grew = False
+            for name, typ, val in lets:
+                if name not in need_ and (calls[name].search(a) or any(calls[name].search(t_ + " " + v_) for n_, t_, v_ in lets if n_ in need_)):
+                    need_.add(name)
+                    grew = True
+        if not need_:
+            continue
+        m = re.match(r"(?s)((?:--[^\n]*\n)*pub \S+ : \S+\n(?:unfolding [^\n]*\n)*\S+ (?:t )?c =)(.*)", a)
+        text = "".join(f"\n    let {n_} : {t_} = {v_} in" for n_, t_, v_ in lets if n_ in need_) + m[2]
+        for n_ in need_:
+            text = re.sub(r"\(" + calls[n_].pattern + r"\)", n_, text)
+            text = calls[n_].sub(n_, text)
+        ans[i] = m[1] + text
     # an answer that cites another goal's proof, which a search finds here too
     ans = [re.sub(r"\((?:%s) (?:t )?c\)" % "|".join(map(re.escape, T.gone or {"-"})), "(search rules)", a) for a in ans]
     for name, new in T.kept.items():

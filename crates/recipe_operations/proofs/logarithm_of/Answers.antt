@@ -1,0 +1,25 @@
+use mathlib.Core.Path.{sym, ◌∙◌}
+use Rattle.composition.specs.Results.{result_ready, result_taken}
+use Rattle.recipe_operations.proofs.Functions.{used_long, front, composed_ready, logarithm_done, logarithm_refused}
+use borrow.Author.Rules.{rules}
+use Rattle.recipe_operations.proofs.logarithm_of.Goals as goal
+
+pub returns-then-word-ne0 : goal.returns-then-word-ne0
+returns-then-word-ne0 c = λ by. logarithm_refused c.requires by c.start_word-word.ensures c.if-word-ne0.true
+
+pub slice_bounds-logarithm_table-end-2 : goal.slice_bounds-logarithm_table-end-2
+slice_bounds-logarithm_table-end-2 c = used_long c.requires c.pad_length-used.ensures
+
+pub logarithm_table-requires : goal.logarithm_table-requires
+logarithm_table-requires c = record { valid = c.requires.valid; ready = composed_ready c.requires c.pad_length-used.ensures }
+
+pub take_result-requires : goal.take_result-requires
+take_result-requires c = let made = c.logarithm_table in
+    result_ready (front c.requires c.pad_length-used.ensures) made.new.workspace made.auto.workspace _ c.requires.table.size
+
+pub returns : goal.returns
+returns c = let made = c.logarithm_table in
+    let used = c.pad_length-used.ensures in
+    λ by.
+    logarithm_done c.requires used by made.new.workspace made.auto.workspace (sym c.start_word-word.ensures ∙ c.if-word-ne0.false)
+    (result_taken (front c.requires used) _ made.auto.workspace made.ensures c.take_result.ensures)
