@@ -13,13 +13,13 @@ pub write_byte-requires : goal.write_byte-requires
 write_byte-requires c = let text = c.write_heading_text-text.ensures in
     let blank = c.write_blanks-end.ensures in
     let short = heading_few c.args.page c.args.pages in
-    omega (arith, text.next_is, short, c.requires.le_width, c.requires.width_in_bounds, writes_length text, blank.0, writes_length blank.1)
+    omega (arith, text.next_is, short, c.requires.le_width, c.requires.width_in_bounds, writes_length text, blank.value, writes_length blank.writes)
 
 pub returns : goal.returns
 returns c = let blank = c.write_blanks-end.ensures in
     let short = heading_few c.args.page c.args.pages in record {
-      value = omega (arith, c.write_byte.ensures.next_is, blank.0);
+      value = omega (arith, c.write_byte.ensures.next_is, blank.value);
       writes = heading-written _ _ _ _
-          (filled-written c.args.width c.args.at (omega (arith, short, c.requires.le_width)) c.write_heading_text-text.ensures blank.1)
+          (filled-written c.args.width c.args.at (omega (arith, short, c.requires.le_width)) c.write_heading_text-text.ensures blank.writes)
           c.write_byte.ensures;
     }

@@ -1,5 +1,7 @@
 use mathlib.Core.Path.{◌≡◌, refl, sym, ◌∙◌}
-use Prim.Native.Nat.{ℕ, ◌≤◌}
+use Prim.Native.Nat.{ℕ, ◌≤◌, ◌^◌}
+use mathlib.Core.List.{List}
+use lib.ListN.{length}
 use native.Mathlib.Omega.{arith}
 use borrow.Author.Rules.{rules}
 use Rattle.definitions.specs.Limits.{pad_length}
@@ -7,28 +9,25 @@ use Rattle.checks.specs.Ends.{Lent, table_fits, part_long, clear_fits, front_cle
 use Rattle.transforms.proofs.product_by.Goals as goal
 
 -- the front of the workspace is lent, as long as a table
-module _ (c : tie.After-power) where
-  abbrev start : tie.Start
-  start = c.before.before.before.before.before
+module _ (n : ℕ) (workspace : List ℕ) (room : pad_length n ≤ length workspace) where
+  lent : {used : ℕ} → used ≡ pad_length n → Lent n used workspace
+  lent e = record { used_is = e; room = room }
 
-  lent : {used : ℕ} → used ≡ pad_length start.args.n → Lent start.args.n used start.args.workspace.now
-  lent e = record { used_is = e; room = start.pre.room }
-
-  part : {used : ℕ} → used ≡ pad_length start.args.n → c.power.result ≤ used
-  part e = omega (arith, table_fits start.args.n, c.power.ensures)
+part : (n : ℕ) {used long : ℕ} → used ≡ pad_length n → long ≡ 2 ^ n → long ≤ used
+part n e l = omega (arith, table_fits n, l)
 
 pub slice_bounds-convolve-end : goal.slice_bounds-convolve-end
-slice_bounds-convolve-end c = omega (arith, part (goal.at.slice_bounds-convolve-end c).After-power-long refl, (start (goal.at.slice_bounds-convolve-end c).After-power-long).pre.room)
+slice_bounds-convolve-end c = omega (arith, part c.args.n refl c.power-long.ensures, c.requires.room)
 
 pub slice_bounds-convolve-end-2 : goal.slice_bounds-convolve-end-2
-slice_bounds-convolve-end-2 c = part_long (lent (goal.at.slice_bounds-convolve-end-2 c).After-power-long refl) (part (goal.at.slice_bounds-convolve-end-2 c).After-power-long refl)
+slice_bounds-convolve-end-2 c = part_long (lent c.args.n c.args.workspace.now c.requires.room refl) (part c.args.n refl c.power-long.ensures)
 
 pub convolve-requires : goal.convolve-requires
-convolve-requires c = let inputs = (start c).requires in record { ready = inputs.first; ready_2 = inputs.second; a_len = inputs.first.table.size ∙ sym inputs.result_is; b_len = inputs.second.table.size ∙ sym c.power-long.ensures ∙ part_long (lent c refl) (part c refl) }
+convolve-requires c = let inputs = c.requires in record { ready = inputs.first; ready_2 = inputs.second; a_len = inputs.first.table.size ∙ sym inputs.result_is; b_len = inputs.second.table.size ∙ sym c.power-long.ensures ∙ part_long (lent c.args.n c.args.workspace.now c.requires.room refl) (part c.args.n refl c.power-long.ensures) }
 
 pub clear-requires : goal.clear-requires
 clear-requires c = let used = c.pad_length-used.ensures in
-    omega (arith, part c used, clear_fits (lent c used) (part c used) c.convolve.new.other c.convolve.auto.other)
+    omega (arith, part c.args.n used c.power-long.ensures, clear_fits (lent c.args.n c.args.workspace.now c.requires.room used) (part c.args.n used c.power-long.ensures) c.convolve.new.other c.convolve.auto.other)
 
 pub returns : goal.returns
-returns c = let used = c.pad_length-used.ensures in record { transformed = c.convolve.ensures; workspace_after = front_cleared (lent c used) (part c used) c.convolve.new.other c.convolve.auto.other c.clear.ensures }
+returns c = let used = c.pad_length-used.ensures in record { transformed = c.convolve.ensures; workspace_after = front_cleared (lent c.args.n c.args.workspace.now c.requires.room used) (part c.args.n used c.power-long.ensures) c.convolve.new.other c.convolve.auto.other c.clear.ensures }
