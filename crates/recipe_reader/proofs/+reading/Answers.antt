@@ -1,5 +1,5 @@
 -- The proof of the four readers, which call each other.
-use Rattle.std.proofs.Common.{◌≡◌, ◌∙◌, ◌+◌, ◌<◌, ◌≤◌, arith, length, drop}
+use Rattle.std.proofs.Common.{◌∙◌, ◌+◌, ◌<◌, ◌≤◌, arith, length, drop}
 use Rattle.definitions.specs.Recipes.{factor, product, alternative, sum}
 use Rattle.recipe_words.specs.Answers.{Taken}
 use Rattle.recipe_words.specs.AnswerLaws.{is_read, is_refused}
@@ -44,7 +44,7 @@ read_sum-joined-place-requires t c =
     let i : c.loop-sign.place.next < length c.args.line.now = sign_inside _ _ s in
     let call = c.read_alternative-in-loop-sign in
     let q : Second alternative c.args.line.now c.loop-sign.code c.loop-sign.place call.new.code c.in-Read-read_alternative.second =
-        record { taken = call.ensures.taken _ c.in-Read-read_alternative.is; long = call.auto.code } in
+    record { taken = call.ensures.taken _ c.in-Read-read_alternative.is; long = call.auto.code } in
     room_sign c.loop-sign.invariant i q
 
 pub read_sum-loop-sign-smaller : goal.read_sum-loop-sign-smaller
@@ -53,7 +53,7 @@ read_sum-loop-sign-smaller t c =
     let i : c.loop-sign.place.next < length c.args.line.now = sign_inside _ _ s in
     let call = c.read_alternative-in-loop-sign in
     let q : Second alternative c.args.line.now c.loop-sign.code c.loop-sign.place call.new.code c.in-Read-read_alternative.second =
-        record { taken = call.ensures.taken _ c.in-Read-read_alternative.is; long = call.auto.code } in
+    record { taken = call.ensures.taken _ c.in-Read-read_alternative.is; long = call.auto.code } in
     omega (arith, c.joined-place.ensures.next_value.0, nearer c.loop-sign.invariant i q)
 
 pub read_sum-loop-sign-preserved : goal.read_sum-loop-sign-preserved
@@ -63,7 +63,7 @@ read_sum-loop-sign-preserved t c =
     let i : c.loop-sign.place.next < length c.args.line.now = sign_inside _ _ s in
     let call = c.read_alternative-in-loop-sign in
     let q : Second alternative c.args.line.now c.loop-sign.code c.loop-sign.place call.new.code c.in-Read-read_alternative.second =
-        record { taken = call.ensures.taken _ c.in-Read-read_alternative.is; long = call.auto.code } in
+    record { taken = call.ensures.taken _ c.in-Read-read_alternative.is; long = call.auto.code } in
     let place = c.joined-place.ensures.next_value in
     record {
       chained =
@@ -109,7 +109,7 @@ read_alternative-joined-place-requires t c =
     let i : c.loop-sign.place.next < length c.args.line.now = sign_inside _ _ s in
     let call = c.read_product-in-loop-sign in
     let q : Second product c.args.line.now c.loop-sign.code c.loop-sign.place call.new.code c.in-Read-read_product.second =
-        record { taken = call.ensures.taken _ c.in-Read-read_product.is; long = call.auto.code } in
+    record { taken = call.ensures.taken _ c.in-Read-read_product.is; long = call.auto.code } in
     room_sign c.loop-sign.invariant i q
 
 pub read_alternative-loop-sign-smaller : goal.read_alternative-loop-sign-smaller
@@ -118,7 +118,7 @@ read_alternative-loop-sign-smaller t c =
     let i : c.loop-sign.place.next < length c.args.line.now = sign_inside _ _ s in
     let call = c.read_product-in-loop-sign in
     let q : Second product c.args.line.now c.loop-sign.code c.loop-sign.place call.new.code c.in-Read-read_product.second =
-        record { taken = call.ensures.taken _ c.in-Read-read_product.is; long = call.auto.code } in
+    record { taken = call.ensures.taken _ c.in-Read-read_product.is; long = call.auto.code } in
     omega (arith, c.joined-place.ensures.next_value.0, nearer c.loop-sign.invariant i q)
 
 pub read_alternative-loop-sign-preserved : goal.read_alternative-loop-sign-preserved
@@ -128,7 +128,7 @@ read_alternative-loop-sign-preserved t c =
     let i : c.loop-sign.place.next < length c.args.line.now = sign_inside _ _ s in
     let call = c.read_product-in-loop-sign in
     let q : Second product c.args.line.now c.loop-sign.code c.loop-sign.place call.new.code c.in-Read-read_product.second =
-        record { taken = call.ensures.taken _ c.in-Read-read_product.is; long = call.auto.code } in
+    record { taken = call.ensures.taken _ c.in-Read-read_product.is; long = call.auto.code } in
     let place = c.joined-place.ensures.next_value in
     record {
       chained =
@@ -174,7 +174,7 @@ read_product-joined-place-requires t c =
     let i : c.loop-sign.place.next < length c.args.line.now = sign_inside _ _ s in
     let call = c.read_factor-in-loop-sign in
     let q : Second factor c.args.line.now c.loop-sign.code c.loop-sign.place call.new.code c.in-Read-read_factor.second =
-        record { taken = call.ensures.taken _ c.in-Read-read_factor.is; long = call.auto.code } in
+    record { taken = call.ensures.taken _ c.in-Read-read_factor.is; long = call.auto.code } in
     room_sign c.loop-sign.invariant i q
 
 pub read_product-loop-sign-smaller : goal.read_product-loop-sign-smaller
@@ -183,7 +183,7 @@ read_product-loop-sign-smaller t c =
     let i : c.loop-sign.place.next < length c.args.line.now = sign_inside _ _ s in
     let call = c.read_factor-in-loop-sign in
     let q : Second factor c.args.line.now c.loop-sign.code c.loop-sign.place call.new.code c.in-Read-read_factor.second =
-        record { taken = call.ensures.taken _ c.in-Read-read_factor.is; long = call.auto.code } in
+    record { taken = call.ensures.taken _ c.in-Read-read_factor.is; long = call.auto.code } in
     omega (arith, c.joined-place.ensures.next_value.0, nearer c.loop-sign.invariant i q)
 
 pub read_product-loop-sign-preserved : goal.read_product-loop-sign-preserved
@@ -193,7 +193,7 @@ read_product-loop-sign-preserved t c =
     let i : c.loop-sign.place.next < length c.args.line.now = sign_inside _ _ s in
     let call = c.read_factor-in-loop-sign in
     let q : Second factor c.args.line.now c.loop-sign.code c.loop-sign.place call.new.code c.in-Read-read_factor.second =
-        record { taken = call.ensures.taken _ c.in-Read-read_factor.is; long = call.auto.code } in
+    record { taken = call.ensures.taken _ c.in-Read-read_factor.is; long = call.auto.code } in
     let place = c.joined-place.ensures.next_value in
     record {
       chained =
@@ -232,4 +232,3 @@ read_factor-returns t c =
     let o : OpensAt (drop c.args.at c.args.line.now) c.in-Opened.long c.in-Opened.call = opens_at _ c.opening_at.ensures c.in-Opened.is in
     let inner : Taken sum c.args.line.now (c.args.at + c.in-Opened.long) c.args.code.now c.args.used c.in-Read.inner c.read_sum.new.code = c.read_sum.ensures.taken _ c.in-Read.is in
     closes _ _ o inner _ _ c.closed.ensures
-

@@ -35,4 +35,3 @@ invariant-read_sum-loop-sign l = Head alternative l.line l.at l.fn.code l.used l
 
 abbrev pub decreases-read_sum-loop-sign : goal.decreases-read_sum-loop-sign
 decreases-read_sum-loop-sign l = length l.line - l.place.next
-
