@@ -22,7 +22,7 @@ pub enum RecipeAnswer {
 }
 
 // A sum at a place: alternatives, and the signs between them. Its code goes behind what is used of the lent bytes.
-#[cycle(read_alternative_read_factor_read_product_read_sum)]
+#[cycle(reading)]
 fn read_sum(line: &[u8], at: usize, code: &mut [u8], used: usize) -> ReadAnswer
     requires { Room line.now at code.old used }
     ensures { Reads sum line.now at code.old used result code.new }
@@ -45,7 +45,7 @@ fn read_sum(line: &[u8], at: usize, code: &mut [u8], used: usize) -> ReadAnswer
 }
 
 // An alternative: products, and the signs between them.
-#[cycle(read_alternative_read_factor_read_product_read_sum)]
+#[cycle(reading)]
 fn read_alternative(line: &[u8], at: usize, code: &mut [u8], used: usize) -> ReadAnswer
     requires { Room line.now at code.old used }
     ensures { Reads alternative line.now at code.old used result code.new }
@@ -68,7 +68,7 @@ fn read_alternative(line: &[u8], at: usize, code: &mut [u8], used: usize) -> Rea
 }
 
 // A product: factors, and the signs between them.
-#[cycle(read_alternative_read_factor_read_product_read_sum)]
+#[cycle(reading)]
 fn read_product(line: &[u8], at: usize, code: &mut [u8], used: usize) -> ReadAnswer
     requires { Room line.now at code.old used }
     ensures { Reads product line.now at code.old used result code.new }
@@ -91,7 +91,7 @@ fn read_product(line: &[u8], at: usize, code: &mut [u8], used: usize) -> ReadAns
 }
 
 // A factor: a letter, or a sum in parentheses, with or without a function.
-#[cycle(read_alternative_read_factor_read_product_read_sum)]
+#[cycle(reading)]
 fn read_factor(line: &[u8], at: usize, code: &mut [u8], used: usize) -> ReadAnswer
     requires { Room line.now at code.old used }
     ensures { Reads factor line.now at code.old used result code.new }
