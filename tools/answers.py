@@ -348,7 +348,7 @@ def turn_file(crate, folder, key, d, known, own):
     # a place that stands for another one: fields are found by their names
     held = r"(?: invariant-\S+ decreases-\S+)?"
     same = set()
-    for m in list(re.finditer(r"(?m)^(?:--[^\n]*\n)*(?:abbrev )?(\S+) : (?:\(\w+ : tie\.\S+%s\)|tie\.[A-Z]\S*%s) → tie\.[A-Z]\S*%s\n\1 (\w+) = (?:\S+ )?\2(?:\.before)*\n" % (held, held, held), t)):
+    for m in list(re.finditer(r"(?m)^(?:--[^\n]*\n)*(?:abbrev )?(\S+) : (?:\(\w+ : tie\.\S+%s\)|tie\.[A-Z]\S*%s) → tie\.[A-Z]\S*%s\n\1 (\w+) = (?:\S+ \2|\2|\(\S+ \2\))(?:\.before)*\n" % (held, held, held), t)):
         t = t.replace(m[0], "")
         same.add(m[1])
     for _ in range(4):
@@ -441,7 +441,7 @@ def turn_file(crate, folder, key, d, known, own):
             if not k:
                 T.left.append("form of " + name)
                 continue
-            if k[3].strip() == "search rules" and not k[1]:
+            if k[3].strip() in ("search rules", "tt") and not k[1]:
                 T.gone.add(name)
                 continue
             T.kept[name] = new

@@ -57,33 +57,33 @@ pub fn laws(
     comp_g_pad: &mut [u32],
     comp_product_pad: &mut [u32],
 ) -> Numbers
-    ensures* { λ k. ⌜ Laws n m a.now b.now e.now f.now g.now (record {
-      sum = record { lent = sum.entry.now; pad = []; number = k.sum; result = sum.exit.now; pad-left = [] };
-      exp-sum = record { lent = exp_sum.old; pad = exp_sum_pad.old; number = k.exp_sum; result = exp_sum.new; pad-left = exp_sum_pad.new };
-      exp-A = record { lent = exp_a.old; pad = exp_a_pad.old; number = k.exp_a; result = exp_a.new; pad-left = exp_a_pad.new };
-      exp-B = record { lent = exp_b.old; pad = exp_b_pad.old; number = k.exp_b; result = exp_b.new; pad-left = exp_b_pad.new };
-      product = record { lent = product.old; pad = product_pad.old; number = k.product; result = product.new; pad-left = product_pad.new };
-      log-exp = record { lent = log_exp.old; pad = log_exp_pad.old; number = k.log_exp; result = log_exp.new; pad-left = log_exp_pad.new };
-      log-E = record { lent = log_e.old; pad = log_e_pad.old; number = k.log_e; result = log_e.new; pad-left = log_e_pad.new };
-      exp-log = record { lent = exp_log.old; pad = exp_log_pad.old; number = k.exp_log; result = exp_log.new; pad-left = exp_log_pad.new };
-      binomial = record { lent = binomial.old; pad = []; number = k.binomial; result = binomial.new; pad-left = [] };
-      comp-binomial = record {
+    ensures { Laws n m a.now b.now e.now f.now g.now (record {
+      sum = record { lent = sum.old; pad = []; number = result.sum; result = sum.new; pad_left = [] };
+      exp_sum = record { lent = exp_sum.old; pad = exp_sum_pad.old; number = result.exp_sum; result = exp_sum.new; pad_left = exp_sum_pad.new };
+      exp_A = record { lent = exp_a.old; pad = exp_a_pad.old; number = result.exp_a; result = exp_a.new; pad_left = exp_a_pad.new };
+      exp_B = record { lent = exp_b.old; pad = exp_b_pad.old; number = result.exp_b; result = exp_b.new; pad_left = exp_b_pad.new };
+      product = record { lent = product.old; pad = product_pad.old; number = result.product; result = product.new; pad_left = product_pad.new };
+      log_exp = record { lent = log_exp.old; pad = log_exp_pad.old; number = result.log_exp; result = log_exp.new; pad_left = log_exp_pad.new };
+      log_E = record { lent = log_e.old; pad = log_e_pad.old; number = result.log_e; result = log_e.new; pad_left = log_e_pad.new };
+      exp_log = record { lent = exp_log.old; pad = exp_log_pad.old; number = result.exp_log; result = exp_log.new; pad_left = exp_log_pad.new };
+      binomial = record { lent = binomial.old; pad = []; number = result.binomial; result = binomial.new; pad_left = [] };
+      comp_binomial = record {
         lent = comp_binomial.old;
         pad = comp_binomial_pad.old;
-        number = k.comp_binomial;
+        number = result.comp_binomial;
         result = comp_binomial.new;
-        pad-left = comp_binomial_pad.new;
+        pad_left = comp_binomial_pad.new;
       };
-      comp-f = record { lent = comp_f.old; pad = comp_f_pad.old; number = k.comp_f; result = comp_f.new; pad-left = comp_f_pad.new };
-      comp-g = record { lent = comp_g.old; pad = comp_g_pad.old; number = k.comp_g; result = comp_g.new; pad-left = comp_g_pad.new };
-      comp-product = record {
+      comp_f = record { lent = comp_f.old; pad = comp_f_pad.old; number = result.comp_f; result = comp_f.new; pad_left = comp_f_pad.new };
+      comp_g = record { lent = comp_g.old; pad = comp_g_pad.old; number = result.comp_g; result = comp_g.new; pad_left = comp_g_pad.new };
+      comp_product = record {
         lent = comp_product.old;
         pad = comp_product_pad.old;
-        number = k.comp_product;
+        number = result.comp_product;
         result = comp_product.new;
-        pad-left = comp_product_pad.new;
+        pad_left = comp_product_pad.new;
       };
-    }) ⌝ }
+    }) }
 {
     let sum_number = entrywise::sum(n, m, a, b, sum);
     let exp_sum_number = series_calls::exponential(n, m, sum, exp_sum, exp_sum_pad);

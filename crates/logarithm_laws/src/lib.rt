@@ -46,29 +46,29 @@ pub fn logarithm_laws(
     inverse_pad: &mut [u32],
     exp_difference_pad: &mut [u32],
 ) -> Numbers
-    ensures* { λ k. ⌜ Lawful n m e.now f.now a.now z.now (record {
-      product = record { lent = product.entry.now; pad = product_pad.old; number = k.product; result = product.exit.now; pad-left = product_pad.new };
-      log-product = record {
+    ensures { Lawful n m e.now f.now a.now z.now (record {
+      product = record { lent = product.old; pad = product_pad.old; number = result.product; result = product.new; pad_left = product_pad.new };
+      log_product = record {
         lent = log_product.old;
         pad = log_product_pad.old;
-        number = k.log_product;
+        number = result.log_product;
         result = log_product.new;
-        pad-left = log_product_pad.new;
+        pad_left = log_product_pad.new;
       };
-      log-E = record { lent = log_e.old; pad = log_e_pad.old; number = k.log_e; result = log_e.new; pad-left = log_e_pad.new };
-      log-F = record { lent = log_f.old; pad = log_f_pad.old; number = k.log_f; result = log_f.new; pad-left = log_f_pad.new };
-      sum = record { lent = sum.old; pad = []; number = k.sum; result = sum.new; pad-left = [] };
-      exp-A = record { lent = exp_a.old; pad = exp_a_pad.old; number = k.exp_a; result = exp_a.new; pad-left = exp_a_pad.new };
-      inverse = record { lent = inverse.old; pad = inverse_pad.old; number = k.inverse; result = inverse.new; pad-left = inverse_pad.new };
-      difference = record { lent = difference.old; pad = []; number = k.difference; result = difference.new; pad-left = [] };
-      exp-difference = record {
+      log_E = record { lent = log_e.old; pad = log_e_pad.old; number = result.log_e; result = log_e.new; pad_left = log_e_pad.new };
+      log_F = record { lent = log_f.old; pad = log_f_pad.old; number = result.log_f; result = log_f.new; pad_left = log_f_pad.new };
+      sum = record { lent = sum.old; pad = []; number = result.sum; result = sum.new; pad_left = [] };
+      exp_A = record { lent = exp_a.old; pad = exp_a_pad.old; number = result.exp_a; result = exp_a.new; pad_left = exp_a_pad.new };
+      inverse = record { lent = inverse.old; pad = inverse_pad.old; number = result.inverse; result = inverse.new; pad_left = inverse_pad.new };
+      difference = record { lent = difference.old; pad = []; number = result.difference; result = difference.new; pad_left = [] };
+      exp_difference = record {
         lent = exp_difference.old;
         pad = exp_difference_pad.old;
-        number = k.exp_difference;
+        number = result.exp_difference;
         result = exp_difference.new;
-        pad-left = exp_difference_pad.new;
+        pad_left = exp_difference_pad.new;
       };
-    }) ⌝ }
+    }) }
 {
     let product_number = subset_product::subset_product(n, m, e, f, product, product_pad);
     let log_product_number = series_calls::logarithm(n, m, product, log_product, log_product_pad);

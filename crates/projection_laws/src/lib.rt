@@ -26,17 +26,17 @@ pub fn projection_law(
     composition_pad: &mut [u32],
     product_pad: &mut [u32],
 ) -> Numbers
-    ensures* { λ k. ⌜ Lawful n m a.now b.now f.now (record {
-      projection = record { lent = projection.entry.now; pad = projection_pad.old; number = k.projection; result = projection.exit.now; pad-left = projection_pad.new };
+    ensures { Lawful n m a.now b.now f.now (record {
+      projection = record { lent = projection.old; pad = projection_pad.old; number = result.projection; result = projection.new; pad_left = projection_pad.new };
       composition = record {
         lent = composition.old;
         pad = composition_pad.old;
-        number = k.composition;
+        number = result.composition;
         result = composition.new;
-        pad-left = composition_pad.new;
+        pad_left = composition_pad.new;
       };
-      product = record { lent = product.old; pad = product_pad.old; number = k.product; result = product.new; pad-left = product_pad.new };
-    }) ⌝ }
+      product = record { lent = product.old; pad = product_pad.old; number = result.product; result = product.new; pad_left = product_pad.new };
+    }) }
 {
     let projection_number = projection_calls::projection(n, m, a, b, projection, projection_pad);
     let composition_number = composition_calls::composition(

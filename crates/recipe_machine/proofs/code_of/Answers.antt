@@ -47,4 +47,4 @@ unfolding instruction_of
 returns-in-108 c = rw c.in-108.is
 
 pub returns-in_default : goal.returns-in_default
-returns-in_default c = last_code _ c.in_default.rest c.requires
+returns-in_default c = last_code _ c.in_default.in_default-own.rest c.requires
