@@ -10,7 +10,7 @@ pub bounds-out-at : goal.bounds-out-at
 bounds-out-at c = joint_room _ c.if-rest-eq0.false c.requires
 
 pub overflow_add-result : goal.overflow_add-result
-overflow_add-result c = omega (arith, slice-write-out c)
+overflow_add-result c = omega (arith, joint_room _ c.if-rest-eq0.false c.requires)
 
 pub shape_of-out : goal.shape_of-out
 shape_of-out c = simp length-set
