@@ -12,29 +12,36 @@
 mod compare;
 mod report;
 
-use libc::STDIN_FILENO;
 use lines::value_at;
+use std::io;
 
 // What a result and a pad hold when they are lent.
 const LENT: u32 = 4294967295;
 
 // False if there is no such call.
-fn run(line: &[u8], a: &[u32], b: &[u32], res: &mut [u32], pad: &mut [u32]) -> bool {
+fn run(
+    rt: &impl Print,
+    line: &[u8],
+    a: &[u32],
+    b: &[u32],
+    res: &mut [u32],
+    pad: &mut [u32],
+) -> io::Result<bool> {
     let n = lines::controls(line);
     let m = lines::modulus(line);
     let returned = calls::run(lines::call(line), n, m, a, b, res, pad);
-    report::comparison(line, returned, a, b, res);
-    report::pad(pad);
-    returned != calls::NO_CALL
+    report::comparison(rt, line, returned, a, b, res)?;
+    report::pad(rt, pad)?;
+    Ok(returned != calls::NO_CALL)
 }
 
 // The lengths are cut to what there is to lend, enough for 12 controls.
-fn lent(line: &[u8], a: &[u32], b: &[u32]) -> bool {
+fn lent(rt: &impl Print, line: &[u8], a: &[u32], b: &[u32]) -> io::Result<bool> {
     let mut table = [LENT; 4096];
     let mut room = [LENT; 114691];
     let result = lines::first(&mut table, lines::result_length(line));
     let pad = lines::first(&mut room, lines::pad_length(line));
-    run(line, a, b, result, pad)
+    run(rt, line, a, b, result, pad)
 }
 
 // The random table that a text describes.
@@ -44,26 +51,26 @@ fn random<'a, 'b>(text: &'b [u8], m: u32, room: &'a mut [u32]) -> &'a mut [u32] 
     lines::first(room, lines::length_in(lines::part(text, b' ', 0)))
 }
 
-fn case(line: &[u8]) -> bool {
+fn case(rt: &impl Print, line: &[u8]) -> io::Result<bool> {
     let mut first = [0u32; 4096];
     let mut second = [0u32; 4096];
     let m = lines::modulus(line);
     let a = random(lines::first_list(line), m, &mut first);
     let b = random(lines::second_list(line), m, &mut second);
-    lent(line, a, b)
+    lent(rt, line, a, b)
 }
 
-fn cases(input: &[u8]) {
+fn cases(rt: &impl Print, input: &[u8]) -> io::Result<()> {
     for k in 0..lines::marks(input, b'\n') {
-        if !case(lines::part(input, b'\n', k)) {
-            lines::text(b"no such call\n");
-            return;
+        if !case(rt, lines::part(input, b'\n', k))? {
+            return lines::text(rt, b"no such call\n");
         }
     }
+    Ok(())
 }
 
-fn main() {
+fn main(rt: HostRuntime) -> io::Result<()> {
     let mut input = [0u8; 16384];
-    let length = io::read_full(STDIN_FILENO, &mut input);
-    cases(&input[..length]);
+    let length = lines::fill(&mut rt.reader(), &mut input)?;
+    cases(&rt, &input[..length])
 }

@@ -1,47 +1,47 @@
-// Parts of a line of output, for the programs that run the calls.
+// Parts of a line of output, for the programs that run the calls. Each function writes to the runtime's standard output, and
+// allocates nothing.
 ghost use Rattle.std.specs.Prelude.{◌≤◌};
 
-use libc::STDOUT_FILENO;
+use std::io;
 
-pub fn text(bytes: &[u8]) {
-    io::write_all(STDOUT_FILENO, bytes);
+pub fn text(rt: &impl Print, bytes: &[u8]) -> io::Result<()> {
+    rt.write_all(bytes)
 }
 
-pub fn mark(byte: u8) {
-    text(&[byte]);
+pub fn mark(rt: &impl Print, byte: u8) -> io::Result<()> {
+    text(rt, &[byte])
 }
 
 fn wide(x: u32) -> u64 {
     x as u64
 }
 
-pub fn long_number(x: u64) {
-    io::print_decimal(STDOUT_FILENO, x);
+pub fn long_number(rt: &impl Print, x: u64) -> io::Result<()> {
+    rt.print(x)
 }
 
-fn number(x: u32) {
-    long_number(wide(x));
+fn number(rt: &impl Print, x: u32) -> io::Result<()> {
+    long_number(rt, wide(x))
 }
 
-pub fn labelled(label: &[u8], x: u32) {
-    text(label);
-    number(x);
+pub fn labelled(rt: &impl Print, label: &[u8], x: u32) -> io::Result<()> {
+    text(rt, label)?;
+    number(rt, x)
 }
 
-pub fn count(x: usize) {
-    long_number(x as u64);
+pub fn count(rt: &impl Print, x: usize) -> io::Result<()> {
+    long_number(rt, x as u64)
 }
 
 // The numbers of a table or a row, with commas between.
-pub fn entries(list: &[u32]) {
-    let mut i = 0;
-    while i < list.len() {
+pub fn entries(rt: &impl Print, list: &[u32]) -> io::Result<()> {
+    for (i, x) in list.iter().enumerate() {
         if 0 < i {
-            mark(b',');
+            mark(rt, b',')?;
         }
-        number(list[i]);
-        i += 1;
+        number(rt, *x)?;
     }
+    Ok(())
 }
 
 // The place of the first number from here on that is not x, or the end.
@@ -59,12 +59,12 @@ fn end_of_run(list: &[u32], from: usize, x: u32) -> usize
 }
 
 // What a call left in a pad that was lent full of one number: zeros, then that number again.
-pub fn pad(pad: &[u32], lent: u32) {
+pub fn pad(rt: &impl Print, pad: &[u32], lent: u32) -> io::Result<()> {
     let zeros = end_of_run(pad, 0, 0);
     let end = end_of_run(pad, zeros, lent);
-    text(b", pad ");
-    count(zeros);
-    text(b" zeros, ");
-    count(end - zeros);
-    text(b" as lent");
+    text(rt, b", pad ")?;
+    count(rt, zeros)?;
+    text(rt, b" zeros, ")?;
+    count(rt, end - zeros)?;
+    text(rt, b" as lent")
 }

@@ -1,7 +1,7 @@
 // Arithmetic modulo m and access to tables.
 ghost use Rattle.std.specs.Prelude.{◌≡◌};
 
-// 02's ceiling of a table of zeros.
+// The ceiling of a table of zeros.
 const CEILING_OF_ZEROS: u32 = 255;
 
 fn wide(x: u32) -> u64

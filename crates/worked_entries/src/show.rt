@@ -1,42 +1,44 @@
 // A line of output for each case, in parts.
 use lines::{entries, long_number, mark, text};
+use std::io;
 
-fn between(before: u8, list: &[u32], after: u8) {
-    mark(before);
-    entries(list);
-    mark(after);
+fn between(rt: &impl Print, before: u8, list: &[u32], after: u8) -> io::Result<()> {
+    mark(rt, before)?;
+    entries(rt, list)?;
+    mark(rt, after)
 }
 
 // A row in round brackets, a table in square ones.
-fn list(line: &[u8], res: &[u32]) {
+fn list(rt: &impl Print, line: &[u8], res: &[u32]) -> io::Result<()> {
     match lines::call(line) {
-        b'b' | b'p' => between(b'(', res, b')'),
-        _ => between(b'[', res, b']'),
+        b'b' | b'p' => between(rt, b'(', res, b')'),
+        _ => between(rt, b'[', res, b']'),
     }
 }
 
 // Only the subset product has one.
-fn ceiling(line: &[u8], returned: u64) {
+fn ceiling(rt: &impl Print, line: &[u8], returned: u64) -> io::Result<()> {
     if lines::call(line) == b's' {
-        text(b", ceiling ");
-        long_number(returned >> 32);
+        text(rt, b", ceiling ")?;
+        long_number(rt, returned >> 32)?;
     }
+    Ok(())
 }
 
 // The name of a case, the number that its call returned, what the result then holds, and the ceiling.
-pub fn outcome(line: &[u8], returned: u64, res: &[u32]) {
-    text(lines::name(line));
-    text(b": ");
-    long_number(returned & 4294967295);
-    mark(b' ');
-    list(line, res);
-    ceiling(line, returned);
+pub fn outcome(rt: &impl Print, line: &[u8], returned: u64, res: &[u32]) -> io::Result<()> {
+    text(rt, lines::name(line))?;
+    text(rt, b": ")?;
+    long_number(rt, returned & 4294967295)?;
+    mark(rt, b' ')?;
+    list(rt, line, res)?;
+    ceiling(rt, line, returned)
 }
 
 // What became of the pad that was lent, if one was.
-pub fn pad(pad: &[u32]) {
+pub fn pad(rt: &impl Print, pad: &[u32]) -> io::Result<()> {
     if 0 < pad.len() {
-        lines::pad(pad, 9);
+        lines::pad(rt, pad, 9)?;
     }
-    mark(b'\n');
+    mark(rt, b'\n')
 }

@@ -1,8 +1,5 @@
-use mathlib.Core.Logic.{⊎_elim}
-use native.Mathlib.Omega.{arith}
 use Prim.Native.Nat.{◌≤◌, ◌-◌}
 use lib.ListN.{length}
-use borrow.Author.Rules.{rules}
 use Rattle.lines.proofs.reading.marks.Given as goal
 
 abbrev pub invariant-loop-i : goal.invariant-loop-i

@@ -1,8 +1,5 @@
-use mathlib.Core.Logic.{⊎_elim}
-use native.Mathlib.Omega.{arith}
 use lib.ListN.{length}
 use Prim.Native.Nat.{◌-◌, ◌≤◌}
-use borrow.Author.Rules.{rules}
 use Rattle.plain_sums.proofs.numbers.differing.Given as goal
 
 abbrev pub invariant-loop-i : goal.invariant-loop-i

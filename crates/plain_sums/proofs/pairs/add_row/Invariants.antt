@@ -1,7 +1,6 @@
 use lib.ListN.{length}
 use mathlib.Core.Path.{◌≡◌}
 use Prim.Native.Nat.{◌-◌, ◌≤◌}
-use borrow.Author.Rules.{rules}
 use Rattle.plain_sums.proofs.pairs.add_row.Given as goal
 
 abbrev pub invariant-loop-r : goal.invariant-loop-r
