@@ -24,22 +24,22 @@ quietly() {
     "$@" >"$log" 2>&1 || { cat "$log"; echo "failed: $*"; exit 1; }
 }
 
-# How many crates are proved for those named, which are counted too; all that are listed if none is.
+# The crates that those named use, and they themselves, the lowest first; all that are listed if none is named
 crates_for() {
     WANTED="$*" awk '
         function visit(name, part, used, k) {
             if (name in seen || !(name in uses)) return
-            seen[name] = 1; count++
+            seen[name] = 1
             used = split(uses[name], part, " ")
             for (k = 1; k <= used; k++) visit(part[k])
+            print name
         }
         { sub(/#.*/, "") }
-        split($0, line, ":") == 2 { gsub(/ /, "", line[1]); uses[line[1]] = line[2] }
+        split($0, line, ":") == 2 { split(line[1], word, " "); uses[word[1]] = line[2] }
         END {
             wanted = split(ENVIRON["WANTED"], want, " ")
             for (k = 1; k <= wanted; k++) visit(want[k])
             if (!wanted) for (name in uses) visit(name)
-            print count
         }' crates.txt
 }
 
@@ -58,20 +58,33 @@ counting() {
     [ ! -t 2 ] || printf '\n' >&2
 }
 
-# Proves the crates named and what they use, with a counter: prove LOG CRATE..
+# Proves and builds the library named and those that it uses, as many at a time as there are processors: prove LOG LIBRARY..
 prove() {
-    local log=$1
+    local log=$1 crates
     shift
-    rt check "$@" 2>&1 | tee "$log" | counting "crates proved" "$(crates_for "$@")" '^rt: ([a-z_]+) proved' ||
-        { cat "$log"; echo "failed: rt check $*"; exit 1; }
+    mapfile -t crates < <(crates_for "$@")
+    : >"$log"
+    # shellcheck disable=SC2016
+    printf '%s\n' "${crates[@]}" | xargs -P "$(nproc)" -I{} bash -c '
+        said=$(cd "crates/$1" && rt lib 2>&1) && echo "proved $1" || { printf "%s\n" "$said" >>"$2"; exit 1; }' - {} "$log" |
+        counting "crates proved" "${#crates[@]}" '^proved ([a-z_]+)' || { cat "$log"; echo "failed: rt lib"; exit 1; }
 }
 
-# Builds the library for C and Rust: build_library LOG. What it uses is proved first, several crates at a time.
+# Builds the library for C and Rust: build_library LOG
 build_library() {
+    prove "$1" sps
+    mkdir -p target/staticlib
+    cp crates/sps/out/libsps.a target/staticlib/libsps.a
+}
+
+# Builds a program: build_program LOG NAME
+build_program() {
     # shellcheck disable=SC2046
-    prove "$1" $(sed -n 's/^sps: //p' crates.txt)
-    tell "proving the exported functions and building the archive"
-    quietly "$1" rt staticlib sps
+    prove "$1" $(sed -n "s/^$2: //p" crates.txt)
+    tell "proving the program $2"
+    (cd "crates/$2" && quietly "$1" rt run </dev/null)
+    mkdir -p target/bin
+    cp "crates/$2/out/$2" "target/bin/$2"
 }
 
 # Says where the library is, whatever the folder is by now: tell_library ARCHIVE

@@ -1,5 +1,4 @@
 use Rattle.nonzero_entries.specs.EntryLaws.{eight_zeros}
-use borrow.Author.Rules.{rules}
 use Rattle.nonzero_entries.proofs.eight_joined.Goals as goal
 
 pub returns : goal.returns

@@ -1,7 +1,3 @@
-use Prim.Native.Nat.{◌-◌}
-use lib.ListN.{length}
-use borrow.Author.Rules.{rules}
-use Rattle.nonzero_entries.specs.Entries.{Skipped}
 use Rattle.nonzero_entries.specs.EntryLaws.{one_skipped, here_next, none_next}
 use Rattle.nonzero_entries.proofs.next_entry.Goals as goal
 

@@ -1,8 +1,6 @@
 use Prim.Native.Nat.{◌-◌}
 use lib.ListN.{length}
-use borrow.Author.Rules.{rules}
 use Rattle.nonzero_entries.specs.Entries.{Skipped}
-use Rattle.nonzero_entries.specs.EntryLaws.{one_skipped, here_next, none_next}
 use Rattle.nonzero_entries.proofs.next_entry.Given as goal
 
 abbrev pub invariant-loop-code : goal.invariant-loop-code

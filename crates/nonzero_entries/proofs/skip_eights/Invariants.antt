@@ -1,9 +1,6 @@
-use borrow.Author.Rules.{rules}
 use Prim.Native.Nat.{◌-◌}
-use native.Mathlib.Omega.{arith}
 use lib.ListN.{length}
 use Rattle.nonzero_entries.specs.Entries.{Skipped}
-use Rattle.nonzero_entries.specs.EntryLaws.{none_skipped, many_skipped}
 use Rattle.nonzero_entries.proofs.skip_eights.Given as goal
 
 abbrev pub invariant-loop-code : goal.invariant-loop-code

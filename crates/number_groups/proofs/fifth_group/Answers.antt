@@ -1,5 +1,4 @@
 use borrow.Author.Tests.{lt-ltb, le-ltb}
-use borrow.Author.Rules.{rules}
 use Rattle.number_groups.proofs.fifth_group.Goals as goal
 
 pub returns-then-group-gt15 : goal.returns-then-group-gt15

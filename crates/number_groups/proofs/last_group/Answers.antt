@@ -1,6 +1,5 @@
 use native.Mathlib.Omega.{arith}
 use borrow.Author.Tests.{lt-ltb}
-use borrow.Author.Rules.{rules}
 use Rattle.number_groups.proofs.last_group.Goals as goal
 
 pub returns-then-group-eq0 : goal.returns-then-group-eq0

@@ -1,6 +1,5 @@
 use native.Mathlib.Omega.{arith}
 use Rattle.number_groups.proofs.GroupSteps.{first_there, one_there, rest_there, there, last_there, more_there, fifth_there}
-use borrow.Author.Rules.{rules}
 use Rattle.number_groups.proofs.number_again.Goals as goal
 
 pub group_at-first-requires : goal.group_at-first-requires

@@ -1,6 +1,5 @@
 use native.Mathlib.Omega.{arith}
 use Rattle.number_groups.proofs.GroupSteps.{is_group, ends_early, ends_in, goes_on, behind, ends_fifth}
-use borrow.Author.Rules.{rules}
 use Rattle.number_groups.proofs.read_groups.Goals as goal
 
 pub returns-then-bytes-at : goal.returns-then-bytes-at

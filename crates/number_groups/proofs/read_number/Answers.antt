@@ -1,7 +1,6 @@
 use mathlib.Core.Path.{refl}
 use native.Mathlib.Omega.{arith}
 use Rattle.number_groups.proofs.GroupSteps.{is_group, no_group, one_group, more_groups}
-use borrow.Author.Rules.{rules}
 use Rattle.number_groups.proofs.read_number.Goals as goal
 
 pub returns-then-bytes-at : goal.returns-then-bytes-at

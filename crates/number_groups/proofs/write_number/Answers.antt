@@ -1,8 +1,7 @@
 use mathlib.Core.Path.{refl}
 use lib.ListN.{length-set}
 use native.Mathlib.Omega.{arith}
-use Rattle.number_groups.proofs.GroupWrites.{GroupsLeft, room, one_less, last_room, none_left, ends_at}
-use borrow.Author.Rules.{rules}
+use Rattle.number_groups.proofs.GroupWrites.{room, one_less, last_room, none_left, ends_at}
 use Rattle.number_groups.proofs.write_number.Goals as goal
 
 pub loop-rest-init : goal.loop-rest-init

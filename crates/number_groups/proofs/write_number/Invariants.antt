@@ -1,8 +1,4 @@
-use mathlib.Core.Path.{refl}
-use lib.ListN.{length-set}
-use native.Mathlib.Omega.{arith}
-use Rattle.number_groups.proofs.GroupWrites.{GroupsLeft, room, one_less, last_room, none_left, ends_at}
-use borrow.Author.Rules.{rules}
+use Rattle.number_groups.proofs.GroupWrites.{GroupsLeft}
 use Rattle.number_groups.proofs.write_number.Given as goal
 
 abbrev pub invariant-loop-rest : goal.invariant-loop-rest

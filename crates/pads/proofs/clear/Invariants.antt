@@ -1,10 +1,7 @@
-use mathlib.Core.Path.{◌≡◌, refl}
+use mathlib.Core.Path.{◌≡◌}
 use Prim.Native.Nat.{ℕ, ◌≤◌, ◌-◌}
-use native.Mathlib.Omega.{arith}
 use lib.ListN.{length}
-use borrow.Author.Rules.{rules}
-use Rattle.definitions.specs.Refusals.{cleared}
-use Rattle.theory.specs.Lists.{filled, filled_none, turn, part}
+use Rattle.theory.specs.Lists.{filled}
 use Rattle.pads.proofs.clear.Given as goal
 
 abbrev pub nothing : ℕ → ℕ

@@ -4,7 +4,6 @@ use native.Mathlib.Nat.{lt_of_le_of_lt, mul-le-mul}
 use native.Mathlib.Omega.{arith}
 use lib.Dec.{lit<}
 use lib.Pow.{pow_mono}
-use borrow.Author.Rules.{rules}
 use Rattle.definitions.specs.Limits.{most_controls, pad_length}
 use Rattle.pads.proofs.pad_length.Goals as goal
 

@@ -1,4 +1,4 @@
-use Rattle.std.proofs.Common.{◌∙◌, arith, rules}
+use Rattle.std.proofs.Common.{◌∙◌, arith}
 use Rattle.residues.specs.Accumulated.{held}
 use Rattle.residues.proofs.Carries.{more_below, joined_all, last_fits, joined-last}
 use Rattle.residues.proofs.Accumulator.residue.Goals as goal

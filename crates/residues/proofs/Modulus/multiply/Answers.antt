@@ -1,4 +1,4 @@
-use Rattle.std.proofs.Common.{arith, rules}
+use Rattle.std.proofs.Common.{arith}
 use Rattle.residues.proofs.Reduce.{product_fits}
 use Rattle.residues.proofs.Modulus.multiply.Goals as goal
 

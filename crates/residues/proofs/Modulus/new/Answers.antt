@@ -1,7 +1,7 @@
 use Rattle.definitions.specs.Limits.{lowest_modulus, largest_modulus}
 use Rattle.residues.specs.Moduli.{modulus_of}
 use Rattle.residues.proofs.Carries.{two_64}
-use Rattle.std.proofs.Common.{◌%◌, ◌<◌, mod-lt, arith, rules, le-ltb, lt-ltb}
+use Rattle.std.proofs.Common.{◌%◌, ◌<◌, mod-lt, arith, le-ltb, lt-ltb}
 use Rattle.residues.proofs.Modulus.new.Goals as goal
 
 pub returns-then-m-lt-LOWEST : goal.returns-then-m-lt-LOWEST

@@ -1,5 +1,5 @@
 use Rattle.std.proofs.Common.{rules}
-use Rattle.residues.proofs.Euclid.{Bezout, first, next, falls, is_reciprocal, is_common}
+use Rattle.residues.proofs.Euclid.{first, next, falls, is_reciprocal, is_common}
 use Rattle.residues.proofs.Modulus.reciprocal.Goals as goal
 
 pub loop-pair-init : goal.loop-pair-init

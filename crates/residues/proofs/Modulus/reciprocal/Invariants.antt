@@ -1,5 +1,4 @@
-use Rattle.std.proofs.Common.{rules}
-use Rattle.residues.proofs.Euclid.{Bezout, first, next, falls, is_reciprocal, is_common}
+use Rattle.residues.proofs.Euclid.{Bezout}
 use Rattle.residues.proofs.Modulus.reciprocal.Given as goal
 
 abbrev pub invariant-loop-pair : goal.invariant-loop-pair

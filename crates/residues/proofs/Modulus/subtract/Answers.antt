@@ -1,4 +1,4 @@
-use Rattle.std.proofs.Common.{arith, rules}
+use Rattle.std.proofs.Common.{arith}
 use Rattle.residues.proofs.Reduce.{back_covers, back_below, back_residue}
 use Rattle.residues.proofs.Modulus.subtract.Goals as goal
 

@@ -1,6 +1,5 @@
 use Prim.Native.Nat.{◌+◌}
 use native.Mathlib.Omega.{arith}
-use borrow.Author.Rules.{rules}
 use lib.Count.{ones-le, trailing_le}
 use Rattle.sets.proofs.Next.{next-size}
 use Rattle.sets.proofs.SetCode.next_size.Goals as goal
