@@ -1,9 +1,9 @@
 use mathlib.Core.Path.{◌≡◌, ◌∙◌, ap}
-use Prim.Native.Nat.{ℕ, suc, ◌+◌, ◌-◌, ◌*◌, ◌%◌, ◌≤◌}
+use Prim.Native.Nat.{ℕ, suc, ◌-◌, ◌*◌, ◌%◌}
 use native.Mathlib.Omega.{arith}
 use borrow.Author.Rules.{rules}
 use Rattle.definitions.specs.Sums.{sum, at}
-use Rattle.residues.specs.Accumulated.{Holds, holds_none, holds_next, holds_room, holds_residue}
+use Rattle.residues.specs.Accumulated.{holds_none, holds_next, holds_room, holds_residue}
 use Rattle.binomial.proofs.Pascal.{reduced_at, unreduced}
 use Rattle.binomial.proofs.binomial_entry.Goals as goal
 

@@ -1,10 +1,6 @@
-use mathlib.Core.Path.{◌≡◌, ◌∙◌, ap}
-use Prim.Native.Nat.{ℕ, suc, ◌+◌, ◌-◌, ◌*◌, ◌%◌, ◌≤◌}
-use native.Mathlib.Omega.{arith}
-use borrow.Author.Rules.{rules}
-use Rattle.definitions.specs.Sums.{sum, at}
-use Rattle.residues.specs.Accumulated.{Holds, holds_none, holds_next, holds_room, holds_residue}
-use Rattle.binomial.proofs.Pascal.{reduced_at, unreduced}
+use Prim.Native.Nat.{◌+◌, ◌-◌, ◌≤◌}
+use Rattle.residues.specs.Accumulated.{Holds}
+use Rattle.binomial.proofs.Pascal.{reduced_at}
 use Rattle.binomial.proofs.binomial_entry.Given as goal
 
 abbrev pub invariant-loop-j : goal.invariant-loop-j

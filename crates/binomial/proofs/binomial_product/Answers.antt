@@ -1,7 +1,6 @@
 use mathlib.Core.Path.{sym}
 use Prim.Native.Nat.{ℕ}
 use native.Mathlib.Omega.{arith}
-use borrow.Author.Rules.{rules}
 use Rattle.definitions.specs.Rows.{binomial_row}
 use Rattle.checks.specs.Accepted.{binomial_accepted}
 use Rattle.checks.specs.Answers.{accepted}

@@ -1,12 +1,8 @@
-use mathlib.Core.Path.{◌≡◌, refl, ◌∙◌, ap₂}
+use mathlib.Core.Path.{◌≡◌}
 use mathlib.Core.List.{◌∷◌}
-use Prim.Native.Nat.{ℕ, ◌+◌, ◌%◌, ◌<◌, ◌≤◌, ◌-◌}
-use native.Mathlib.Omega.{arith}
-use lib.ListN.{length, get_or}
-use borrow.Author.Rules.{rules}
+use Prim.Native.Nat.{◌≤◌, ◌-◌}
 use Rattle.definitions.specs.Sums.{at}
-use Rattle.theory.specs.Lists.{filled, filled_none, filled_all, turn, part}
-use Rattle.binomial.proofs.Pascal.{at-filled, left_more, left_below}
+use Rattle.theory.specs.Lists.{filled}
 use Rattle.binomial.specs.Rules.{pascal_at, row_width}
 use Rattle.binomial.proofs.next_pascal_row.Given as goal
 

@@ -1,5 +1,4 @@
 use Prim.Native.Nat.{ℕ}
-use borrow.Author.Rules.{rules}
 use Rattle.definitions.specs.Partitions.{unit}
 use Rattle.definitions.specs.Boards.{board, fresh_board}
 use Rattle.board_calls.specs.Accepted.{room, not-empty, long_enough, accepted_board, refused_board}

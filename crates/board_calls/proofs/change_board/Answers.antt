@@ -1,6 +1,5 @@
 use Prim.Native.Nat.{ℕ}
 use native.Mathlib.Omega.{arith}
-use borrow.Author.Rules.{rules}
 use Rattle.definitions.specs.Boards.{Board, board, added_at, raised_over}
 use Rattle.board_calls.specs.Accepted.{changed_by, ready, ready_for, lacking_table, lowered_table, accepted_change, refused_board}
 use Rattle.board_calls.proofs.change_board.Goals as goal

@@ -1,7 +1,6 @@
 use Prim.Native.Nat.{◌^◌, ◌<◌, ◌≤◌}
 use borrow.Author.Tests.{lt-ltb, le-ltb}
 use native.Mathlib.Omega.{arith}
-use borrow.Author.Rules.{rules}
 use Rattle.board_checks.proofs.code_word.Goals as goal
 
 pub returns-then-code-power : goal.returns-then-code-power

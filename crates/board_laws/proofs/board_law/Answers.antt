@@ -1,4 +1,3 @@
-use borrow.Author.Rules.{rules}
 use Rattle.board_laws.specs.Theorem.{lawful}
 use Rattle.board_laws.proofs.Turns.{fresh_run}
 use Rattle.board_laws.proofs.board_law.Goals as goal

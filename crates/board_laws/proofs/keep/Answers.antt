@@ -1,7 +1,6 @@
 use mathlib.Core.Path.{sym}
 use native.Mathlib.Omega.{arith}
 use lib.Seq.{set_out}
-use borrow.Author.Rules.{rules}
 use Rattle.board_laws.proofs.keep.Goals as goal
 
 pub returns-else-i-numbers : goal.returns-else-i-numbers

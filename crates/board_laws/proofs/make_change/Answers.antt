@@ -1,5 +1,4 @@
 use Rattle.board_laws.proofs.Turns.{made_add, made_take}
-use borrow.Author.Rules.{rules}
 use Rattle.definitions.specs.Boards.{board}
 use Rattle.board_laws.proofs.make_change.Goals as goal
 

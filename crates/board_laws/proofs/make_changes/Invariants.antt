@@ -1,10 +1,8 @@
 use mathlib.Core.Path.{◌≡◌}
 use Prim.Native.Nat.{◌-◌, ◌≤◌}
-use native.Mathlib.Omega.{arith}
 use lib.ListN.{length}
-use borrow.Author.Rules.{rules}
 use Rattle.definitions.specs.Boards.{board}
-use Rattle.board_laws.proofs.Turns.{Turn, none_made, one_more_made, all_made}
+use Rattle.board_laws.proofs.Turns.{Turn}
 use Rattle.board_laws.proofs.make_changes.Given as goal
 
 abbrev pub invariant-loop-k : goal.invariant-loop-k

@@ -1,6 +1,5 @@
 use native.Mathlib.Omega.{arith}
 use Rattle.board_tables.proofs.Raising.{product_small}
-use borrow.Author.Rules.{rules}
 use Rattle.board_tables.proofs.add_product.Goals as goal
 
 pub overflow_mul-product : goal.overflow_mul-product

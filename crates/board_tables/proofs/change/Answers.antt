@@ -1,5 +1,4 @@
 use native.Mathlib.Omega.{arith}
-use borrow.Author.Rules.{rules}
 use Rattle.board_tables.proofs.Raising.{added_set}
 use Rattle.board_tables.proofs.change.Goals as goal
 

@@ -1,5 +1,4 @@
 use Rattle.board_tables.proofs.Fresh.{unit-set}
-use borrow.Author.Rules.{rules}
 use Rattle.board_tables.proofs.fill_unit.Goals as goal
 
 pub returns : goal.returns

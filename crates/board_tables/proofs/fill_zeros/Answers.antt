@@ -1,5 +1,4 @@
 use Rattle.board_tables.proofs.Fresh.{cleared_all}
-use borrow.Author.Rules.{rules}
 use Rattle.board_tables.proofs.fill_zeros.Goals as goal
 
 pub returns : goal.returns

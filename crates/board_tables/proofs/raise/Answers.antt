@@ -1,7 +1,7 @@
 use Prim.Native.Nat.{◌-◌, ◌^◌, ◌<◌}
 use native.Mathlib.Omega.{arith}
 use Rattle.board_tables.proofs.Supersets.{next_nearer}
-use Rattle.board_tables.proofs.Raising.{Raising, raising_none, rest_fits, fits, small, raising_more, raising_all}
+use Rattle.board_tables.proofs.Raising.{raising_none, rest_fits, fits, small, raising_more, raising_all}
 use Rattle.board_tables.proofs.raise.Goals as goal
 
 pub power-long-requires : goal.power-long-requires

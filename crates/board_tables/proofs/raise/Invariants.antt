@@ -1,7 +1,5 @@
-use Prim.Native.Nat.{◌-◌, ◌^◌, ◌<◌}
-use native.Mathlib.Omega.{arith}
-use Rattle.board_tables.proofs.Supersets.{next_nearer}
-use Rattle.board_tables.proofs.Raising.{Raising, raising_none, rest_fits, fits, small, raising_more, raising_all}
+use Prim.Native.Nat.{◌-◌}
+use Rattle.board_tables.proofs.Raising.{Raising}
 use Rattle.board_tables.proofs.raise.Given as goal
 
 abbrev pub invariant-loop-t : goal.invariant-loop-t

@@ -1,5 +1,4 @@
 use mathlib.Core.Path.{ap, ◌∙◌}
-use borrow.Author.Rules.{rules}
 use Rattle.definitions.specs.Refusals.{first_word}
 use Rattle.checks.specs.Accepted.{pair_words}
 use Rattle.checks.specs.Making.{these_words, ◌then◌, no_more}

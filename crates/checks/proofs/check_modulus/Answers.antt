@@ -1,4 +1,3 @@
-use borrow.Author.Rules.{rules}
 use Rattle.checks.specs.Answers.{also_tested_lem, same_answer}
 use Rattle.checks.proofs.check_modulus.Goals as goal
 

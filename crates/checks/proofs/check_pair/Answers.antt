@@ -1,7 +1,6 @@
 use mathlib.Core.Path.{ap}
 use mathlib.Core.List.{◌∷◌}
 use Prim.Native.Nat.{ℕ}
-use borrow.Author.Rules.{rules}
 use Rattle.definitions.specs.Refusals.{first_word, modulus_word, sum_number}
 use Rattle.checks.specs.Accepted.{pair_words}
 use Rattle.checks.specs.Answers.{same_number}

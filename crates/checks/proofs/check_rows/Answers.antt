@@ -1,4 +1,3 @@
-use borrow.Author.Rules.{rules}
 use Rattle.definitions.specs.Refusals.{binomial_number}
 use Rattle.checks.specs.Making.{panel_refused, past_panel}
 use Rattle.checks.proofs.check_rows.Goals as goal

@@ -1,6 +1,5 @@
 use mathlib.Core.Path.{ap, ◌∙◌}
 use lib.ListN.{length}
-use borrow.Author.Rules.{rules}
 use Rattle.definitions.specs.Refusals.{first_word, single_number}
 use Rattle.checks.specs.Accepted.{single_words}
 use Rattle.checks.specs.Making.{panel_refused, panel_within, past_panel, these_words, ◌then◌, no_more, table_length}

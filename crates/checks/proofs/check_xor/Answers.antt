@@ -1,5 +1,4 @@
 use mathlib.Core.Path.{ap}
-use borrow.Author.Rules.{rules}
 use Rattle.definitions.specs.Refusals.{or_else, product_number, xor_number}
 use Rattle.checks.specs.Answers.{also_tested_lem, same_number, same_answer}
 use Rattle.checks.proofs.check_xor.Goals as goal

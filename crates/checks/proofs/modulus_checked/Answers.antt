@@ -1,5 +1,4 @@
 use mathlib.Core.Path.{sym, ◌∙◌}
-use borrow.Author.Rules.{rules}
 use Rattle.residues.specs.Moduli.{made, refused}
 use Rattle.checks.specs.Making.{modulus_stands, modulus_refused}
 use Rattle.checks.proofs.modulus_checked.Goals as goal

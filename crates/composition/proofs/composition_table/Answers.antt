@@ -1,6 +1,5 @@
 use Prim.Native.Nat.{◌-◌}
-use borrow.Author.Rules.{rules}
-use Rattle.composition.proofs.Levels.{Composing, row_fits, composing_first, level_ready, composing_more, composed}
+use Rattle.composition.proofs.Levels.{row_fits, composing_first, level_ready, composing_more, composed}
 use Rattle.composition.proofs.composition_table.Goals as goal
 
 pub copy_entries-requires : goal.copy_entries-requires

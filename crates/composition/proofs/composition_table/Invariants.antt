@@ -1,6 +1,5 @@
 use Prim.Native.Nat.{◌-◌}
-use borrow.Author.Rules.{rules}
-use Rattle.composition.proofs.Levels.{Composing, row_fits, composing_first, level_ready, composing_more, composed}
+use Rattle.composition.proofs.Levels.{Composing}
 use Rattle.composition.proofs.composition_table.Given as goal
 
 abbrev pub invariant-loop-k : goal.invariant-loop-k

@@ -1,9 +1,8 @@
-use mathlib.Core.Path.{◌≡◌, refl}
-use Prim.Native.Nat.{◌-◌, ◌≤◌}
+use mathlib.Core.Path.{refl}
+use Prim.Native.Nat.{◌-◌}
 use native.Mathlib.Omega.{arith}
-use lib.ListN.{length}
 use borrow.Author.Rules.{rules}
-use Rattle.theory.specs.Lists.{filled, filled_none, turn, part}
+use Rattle.theory.specs.Lists.{filled_none, turn, part}
 use Rattle.definitions.specs.Sums.{at}
 use Rattle.composition.proofs.copy_entries.Goals as goal
 

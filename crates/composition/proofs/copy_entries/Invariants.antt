@@ -1,9 +1,7 @@
-use mathlib.Core.Path.{◌≡◌, refl}
+use mathlib.Core.Path.{◌≡◌}
 use Prim.Native.Nat.{◌-◌, ◌≤◌}
-use native.Mathlib.Omega.{arith}
 use lib.ListN.{length}
-use borrow.Author.Rules.{rules}
-use Rattle.theory.specs.Lists.{filled, filled_none, turn, part}
+use Rattle.theory.specs.Lists.{filled}
 use Rattle.definitions.specs.Sums.{at}
 use Rattle.composition.proofs.copy_entries.Given as goal
 

@@ -1,8 +1,7 @@
 use mathlib.Core.Path.{subst}
 use mathlib.Core.Path.{◌≡◌, refl}
-use Prim.Native.Nat.{ℕ, ◌-◌, ◌≤◌}
+use Prim.Native.Nat.{ℕ, ◌-◌}
 use native.Mathlib.Omega.{arith}
-use lib.ListN.{length}
 use borrow.Author.Rules.{rules}
 use Rattle.composition.proofs.Copies.{copied_none, copied_more}
 use Rattle.composition.specs.Slots.{Copied}

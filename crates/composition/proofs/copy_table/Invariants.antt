@@ -1,10 +1,6 @@
-use mathlib.Core.Path.{subst}
-use mathlib.Core.Path.{◌≡◌, refl}
-use Prim.Native.Nat.{ℕ, ◌-◌, ◌≤◌}
-use native.Mathlib.Omega.{arith}
+use mathlib.Core.Path.{◌≡◌}
+use Prim.Native.Nat.{◌-◌, ◌≤◌}
 use lib.ListN.{length}
-use borrow.Author.Rules.{rules}
-use Rattle.composition.proofs.Copies.{copied_none, copied_more}
 use Rattle.composition.specs.Slots.{Copied}
 use Rattle.composition.proofs.copy_table.Given as goal
 

@@ -1,6 +1,5 @@
 use native.Mathlib.Omega.{arith}
-use borrow.Author.Rules.{rules}
-use Rattle.composition.proofs.Levels.{Raising, raising_none, turn_ready, raising_more, raised}
+use Rattle.composition.proofs.Levels.{raising_none, turn_ready, raising_more, raised}
 use Rattle.composition.proofs.next_level.Goals as goal
 
 pub loop-i-init : goal.loop-i-init

@@ -1,6 +1,4 @@
-use native.Mathlib.Omega.{arith}
-use borrow.Author.Rules.{rules}
-use Rattle.composition.proofs.Levels.{Raising, raising_none, turn_ready, raising_more, raised}
+use Rattle.composition.proofs.Levels.{Raising}
 use Rattle.composition.proofs.next_level.Given as goal
 
 abbrev pub invariant-loop-i : goal.invariant-loop-i

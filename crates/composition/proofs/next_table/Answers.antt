@@ -1,5 +1,4 @@
 use native.Mathlib.Omega.{arith}
-use borrow.Author.Rules.{rules}
 use Rattle.composition.proofs.Places.{shift_is, within_ready, copy_ready, turned}
 use Rattle.composition.proofs.next_table.Goals as goal
 

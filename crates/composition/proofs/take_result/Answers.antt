@@ -1,5 +1,4 @@
 use native.Mathlib.Omega.{arith}
-use borrow.Author.Rules.{rules}
 use Rattle.composition.proofs.Levels.{result_fits, result_taken}
 use Rattle.composition.proofs.take_result.Goals as goal
 

@@ -1,11 +1,8 @@
 use mathlib.Core.Path.{◌≡◌, sym, ◌∙◌}
 use mathlib.Core.Bool.{true}
-use mathlib.Core.Logic.{inl, inr}
 use native.Mathlib.Nat.{zero-max}
 use native.Mathlib.Omega.{arith}
 use lib.Pow.{pow_pos}
-use borrow.Author.Rules.{rules}
-use borrow.Author.Tests.{eqb-true, eqb-false}
 use Rattle.definitions.specs.Products.{nonzero}
 use Rattle.theory.specs.Degree.{nonzero-at, degree-zeros}
 use Rattle.degrees.specs.Parts.{part_most, part_whole, part_none, part_some}

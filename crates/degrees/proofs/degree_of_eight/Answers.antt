@@ -1,4 +1,3 @@
-use borrow.Author.Rules.{rules}
 use Rattle.degrees.specs.Parts.{part_eight}
 use Rattle.degrees.proofs.degree_of_eight.Goals as goal
 

@@ -1,9 +1,7 @@
 use mathlib.Core.Path.{◌≡◌}
 use Prim.Native.Nat.{◌≤◌, ◌-◌}
-use native.Mathlib.Omega.{arith}
 use lib.ListN.{length}
-use borrow.Author.Rules.{rules}
-use Rattle.theory.specs.Lists.{filled, filled_none, turn, whole}
+use Rattle.theory.specs.Lists.{filled}
 use Rattle.entrywise.specs.Rules.{sum_at}
 use Rattle.entrywise.proofs.add_entries.Given as goal
 

@@ -1,9 +1,7 @@
-use mathlib.Core.Path.{◌≡◌}
-use Prim.Native.Nat.{◌≤◌, ◌-◌}
+use Prim.Native.Nat.{◌-◌}
 use native.Mathlib.Omega.{arith}
-use lib.ListN.{length}
 use borrow.Author.Rules.{rules}
-use Rattle.theory.specs.Lists.{filled, filled_none, turn, whole}
+use Rattle.theory.specs.Lists.{filled_none, turn, whole}
 use Rattle.entrywise.specs.Rules.{difference_at}
 use Rattle.entrywise.proofs.subtract_entries.Goals as goal
 

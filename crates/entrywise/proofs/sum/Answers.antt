@@ -1,6 +1,5 @@
 use mathlib.Core.Path.{sym}
 use Prim.Native.Nat.{ℕ}
-use borrow.Author.Rules.{rules}
 use Rattle.definitions.specs.Products.{residues, sum_table}
 use Rattle.checks.specs.Accepted.{sum_accepted}
 use Rattle.checks.specs.Answers.{accepted}

@@ -1,6 +1,5 @@
 use mathlib.Core.Path.{refl}
 use native.Mathlib.Omega.{arith}
-use borrow.Author.Rules.{rules}
 use Rattle.exponential.proofs.Halves.{half_long, upper_long, left_ready, right_ready, both_ready, upper_filled_lem}
 use Rattle.exponential.proofs.fill_upper.Goals as goal
 

@@ -1,7 +1,6 @@
 use native.Mathlib.Omega.{arith}
 use Rattle.theory.specs.Entries.{at_below}
 use Rattle.file_trips.specs.TripLaws.{not_read, read_and-written}
-use borrow.Author.Rules.{rules}
 use Rattle.file_trips.proofs.read_then_write.Goals as goal
 
 pub returns-in-Header : goal.returns-in-Header

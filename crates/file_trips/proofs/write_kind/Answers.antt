@@ -1,4 +1,3 @@
-use borrow.Author.Rules.{rules}
 use Rattle.file_trips.proofs.write_kind.Goals as goal
 
 pub returns-in-Full : goal.returns-in-Full

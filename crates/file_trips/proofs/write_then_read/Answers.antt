@@ -1,6 +1,5 @@
 use Rattle.table_header.specs.HeaderAnswers.{kind_is}
 use Rattle.file_trips.specs.TripLaws.{not_written, part_fits, part_long, read_back}
-use borrow.Author.Rules.{rules}
 use Rattle.file_trips.proofs.write_then_read.Goals as goal
 
 pub returns-then-written-ne0 : goal.returns-then-written-ne0

@@ -6,9 +6,8 @@ use lib.Count.{ones-le}
 use lib.ListN.{length-set}
 use Rattle.definitions.specs.Limits.{most_controls}
 use Rattle.text_pieces.specs.TextLaws.{writes_length}
-use Rattle.label_column.proofs.ColumnSteps.{ColumnSoFar, blank_column, column_room, no_label, no_size, column_start, rest_small, next_below}
+use Rattle.label_column.proofs.ColumnSteps.{blank_column, column_room, no_label, no_size, column_start, rest_small, next_below}
 use Rattle.label_column.proofs.ColumnSteps.{name_room, label_room, joint_fits, column_more, column_all, column_size}
-use borrow.Author.Rules.{rules}
 use Rattle.label_column.proofs.write_column.Goals as goal
 
 pub overflow_add-at : goal.overflow_add-at

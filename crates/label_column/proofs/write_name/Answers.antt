@@ -1,8 +1,6 @@
 use Prim.Native.Nat.{◌-◌}
 use native.Mathlib.Omega.{arith}
-use Rattle.definitions.specs.Limits.{longest_label}
-use Rattle.label_column.proofs.NameSteps.{NameSoFar, name_start, name_more, name_all}
-use borrow.Author.Rules.{rules}
+use Rattle.label_column.proofs.NameSteps.{name_start, name_more, name_all}
 use Rattle.label_column.proofs.write_name.Goals as goal
 
 pub loop-i-init : goal.loop-i-init

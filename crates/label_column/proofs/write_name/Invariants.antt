@@ -1,8 +1,6 @@
 use Prim.Native.Nat.{◌-◌}
-use native.Mathlib.Omega.{arith}
 use Rattle.definitions.specs.Limits.{longest_label}
-use Rattle.label_column.proofs.NameSteps.{NameSoFar, name_start, name_more, name_all}
-use borrow.Author.Rules.{rules}
+use Rattle.label_column.proofs.NameSteps.{NameSoFar}
 use Rattle.label_column.proofs.write_name.Given as goal
 
 abbrev pub invariant-loop-i : goal.invariant-loop-i

@@ -1,8 +1,6 @@
 use native.Mathlib.Omega.{arith}
 use mathlib.Core.Path.{refl}
 use borrow.Author.Tests.{lt-ltb, le-ltb}
-use borrow.Author.Rules.{rules}
-use Rattle.label_sheet.proofs.wide.Reads as wide-reads
 use Rattle.label_sheet.proofs.byte_or_blank.Goals as goal
 
 pub returns-then-i-label : goal.returns-then-i-label

@@ -1,7 +1,5 @@
 use mathlib.Core.Path.{sym, ◌∙◌}
 use Rattle.label_sheet.proofs.SheetSteps.{is_digit, is_capital, is_small, is_other}
-use borrow.Author.Rules.{rules}
-use Rattle.label_sheet.proofs.is_between.Reads as is-between-reads
 use Rattle.label_sheet.proofs.byte_word.Goals as goal
 
 pub returns-then-is_between : goal.returns-then-is_between

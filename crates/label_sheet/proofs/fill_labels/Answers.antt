@@ -2,10 +2,7 @@ use mathlib.Core.Path.{sym, ◌∙◌}
 use Prim.Native.Nat.{◌+◌, ◌-◌, ◌≤◌}
 use native.Mathlib.Omega.{arith}
 use lib.ListN.{length, length-take, length-drop, length-set}
-use Rattle.definitions.specs.Limits.{most_controls}
-use Rattle.label_sheet.specs.SheetAnswers.{Tested}
-use Rattle.label_sheet.proofs.ArraySteps.{FilledSoFar, fill_start, good_label, label_stands, fill_more, fill_all}
-use borrow.Author.Rules.{rules}
+use Rattle.label_sheet.proofs.ArraySteps.{fill_start, good_label, label_stands, fill_more, fill_all}
 use Rattle.label_sheet.proofs.fill_labels.Goals as goal
 
 -- the part of the sheet that is lent ends within it

@@ -1,11 +1,7 @@
-use mathlib.Core.Path.{sym, ◌∙◌}
-use Prim.Native.Nat.{◌+◌, ◌-◌, ◌≤◌}
-use native.Mathlib.Omega.{arith}
-use lib.ListN.{length, length-take, length-drop, length-set}
+use Prim.Native.Nat.{◌-◌}
 use Rattle.definitions.specs.Limits.{most_controls}
 use Rattle.label_sheet.specs.SheetAnswers.{Tested}
-use Rattle.label_sheet.proofs.ArraySteps.{FilledSoFar, fill_start, good_label, label_stands, fill_more, fill_all}
-use borrow.Author.Rules.{rules}
+use Rattle.label_sheet.proofs.ArraySteps.{FilledSoFar}
 use Rattle.label_sheet.proofs.fill_labels.Given as goal
 
 abbrev pub invariant-loop-control : goal.invariant-loop-control

@@ -1,9 +1,5 @@
-use mathlib.Core.Path.{◌≡◌, refl, sym, ◌∙◌}
-use lib.ListN.{drop}
-use Rattle.definitions.specs.Limits.{most_controls}
-use Rattle.label_sheet.proofs.SheetSteps.{labels_number, labels_stop, labels_more, with_tail, without_tail}
-use borrow.Author.Rules.{rules}
-use Rattle.label_sheet.proofs.read_label.Reads as read-label-reads
+use mathlib.Core.Path.{refl, sym, ◌∙◌}
+use Rattle.label_sheet.proofs.SheetSteps.{labels_stop, labels_more, with_tail, without_tail}
 use Rattle.label_sheet.proofs.labels_word.Goals as goal
 
 pub loop-left-init : goal.loop-left-init

@@ -1,9 +1,7 @@
-use mathlib.Core.Path.{◌≡◌, refl, sym, ◌∙◌}
+use mathlib.Core.Path.{◌≡◌}
 use lib.ListN.{drop}
 use Rattle.definitions.specs.Limits.{most_controls}
-use Rattle.label_sheet.proofs.SheetSteps.{labels_number, labels_stop, labels_more, with_tail, without_tail}
-use borrow.Author.Rules.{rules}
-use Rattle.label_sheet.proofs.read_label.Reads as read-label-reads
+use Rattle.label_sheet.proofs.SheetSteps.{labels_number}
 use Rattle.label_sheet.proofs.labels_word.Given as goal
 
 abbrev pub invariant-loop-left : goal.invariant-loop-left

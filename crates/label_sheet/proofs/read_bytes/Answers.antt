@@ -1,8 +1,5 @@
-use mathlib.Core.Path.{◌≡◌, refl, sym, ◌∙◌}
-use lib.ListN.{drop}
-use Rattle.label_sheet.proofs.SheetSteps.{bytes_rest, bytes_all, bytes_end, bytes_stop, bytes_more}
-use borrow.Author.Rules.{rules}
-use Rattle.label_sheet.proofs.byte_word.Reads as byte-word-reads
+use mathlib.Core.Path.{refl, sym, ◌∙◌}
+use Rattle.label_sheet.proofs.SheetSteps.{bytes_all, bytes_end, bytes_stop, bytes_more}
 use Rattle.label_sheet.proofs.read_bytes.Goals as goal
 
 pub loop-left-init : goal.loop-left-init

@@ -1,8 +1,6 @@
-use mathlib.Core.Path.{◌≡◌, refl, sym, ◌∙◌}
+use mathlib.Core.Path.{◌≡◌}
 use lib.ListN.{drop}
-use Rattle.label_sheet.proofs.SheetSteps.{bytes_rest, bytes_all, bytes_end, bytes_stop, bytes_more}
-use borrow.Author.Rules.{rules}
-use Rattle.label_sheet.proofs.byte_word.Reads as byte-word-reads
+use Rattle.label_sheet.proofs.SheetSteps.{bytes_rest}
 use Rattle.label_sheet.proofs.read_bytes.Given as goal
 
 abbrev pub invariant-loop-left : goal.invariant-loop-left

@@ -1,7 +1,4 @@
 use Rattle.label_sheet.proofs.SheetSteps.{no_length, length_none, length_large, length_right}
-use borrow.Author.Rules.{rules}
-use Rattle.label_sheet.proofs.read_bytes.Reads as read-bytes-reads
-use Rattle.number_groups.proofs.read_number.Reads as read-number-reads
 use Rattle.label_sheet.proofs.read_label.Goals as goal
 
 pub returns-then-length-lt1 : goal.returns-then-length-lt1

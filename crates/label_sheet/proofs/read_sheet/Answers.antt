@@ -1,9 +1,5 @@
 use Rattle.label_sheet.proofs.SheetSteps.{SheetTested, sheet_stops, sheet_tested}
 use Rattle.label_sheet.proofs.ArraySteps.{sheet_number_lem, sheet_loaded}
-use borrow.Author.Rules.{rules}
-use Rattle.label_sheet.proofs.equal_word.Reads as equal-word-reads
-use Rattle.label_sheet.proofs.fill_labels.Reads as fill-labels-reads
-use Rattle.label_sheet.proofs.labels_word.Reads as labels-word-reads
 use Rattle.label_sheet.proofs.read_sheet.Goals as goal
 
 pub returns-then-word-ne0 : goal.returns-then-word-ne0

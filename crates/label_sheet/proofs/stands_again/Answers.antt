@@ -1,8 +1,6 @@
 use Prim.Native.Nat.{◌-◌}
 use native.Mathlib.Omega.{arith}
-use Rattle.definitions.specs.Limits.{most_controls}
-use Rattle.label_sheet.proofs.ArraySteps.{NoneSoFar, none_start, found_one, none_more, none_all}
-use borrow.Author.Rules.{rules}
+use Rattle.label_sheet.proofs.ArraySteps.{none_start, found_one, none_more, none_all}
 use Rattle.label_sheet.proofs.stands_again.Goals as goal
 
 pub overflow_add-other : goal.overflow_add-other

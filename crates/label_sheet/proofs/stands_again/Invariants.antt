@@ -1,8 +1,6 @@
 use Prim.Native.Nat.{◌-◌}
-use native.Mathlib.Omega.{arith}
 use Rattle.definitions.specs.Limits.{most_controls}
-use Rattle.label_sheet.proofs.ArraySteps.{NoneSoFar, none_start, found_one, none_more, none_all}
-use borrow.Author.Rules.{rules}
+use Rattle.label_sheet.proofs.ArraySteps.{NoneSoFar}
 use Rattle.label_sheet.proofs.stands_again.Given as goal
 
 abbrev pub invariant-loop-other : goal.invariant-loop-other

@@ -1,7 +1,5 @@
 use Prim.Native.Nat.{◌-◌}
-use lib.ListN.{length}
-use Rattle.page_text.proofs.PartSteps.{Counting, counted_none, counted_zero, counted-one, counted_all}
-use borrow.Author.Rules.{rules}
+use Rattle.page_text.proofs.PartSteps.{counted_none, counted_zero, counted-one, counted_all}
 use Rattle.page_text.proofs.count_lines.Goals as goal
 use Rattle.page_text.proofs.count_lines.Goals.{then-table-code-ne0, else-table-code-ne0}
 

@@ -1,8 +1,6 @@
-use mathlib.Core.Logic.{⊎_elim}
 use Prim.Native.Nat.{◌-◌}
 use lib.ListN.{length}
-use Rattle.page_text.proofs.PartSteps.{Counting, counted_none, counted_zero, counted-one, counted_all}
-use borrow.Author.Rules.{rules}
+use Rattle.page_text.proofs.PartSteps.{Counting}
 use Rattle.page_text.proofs.count_lines.Given as goal
 
 abbrev pub invariant-loop-code : goal.invariant-loop-code

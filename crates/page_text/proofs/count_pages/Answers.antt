@@ -1,5 +1,4 @@
 use Rattle.page_text.proofs.PartSteps.{pages_zero, pages_more}
-use borrow.Author.Rules.{rules}
 use Rattle.page_text.proofs.count_pages.Goals as goal
 
 pub returns-then-lines-eq0 : goal.returns-then-lines-eq0

@@ -3,7 +3,6 @@ use Rattle.definitions.specs.Show.{decimal}
 use Rattle.text_pieces.specs.TextLaws.{decimal_few, writes_room}
 use Rattle.page_theory.specs.Widths.{length-aligned, decimal_two}
 use Rattle.page_text.proofs.PartSteps.{behind_written}
-use borrow.Author.Rules.{rules}
 use Rattle.page_text.proofs.write_behind.Goals as goal
 
 pub write_byte-second-requires : goal.write_byte-second-requires

@@ -2,7 +2,6 @@ use native.Mathlib.Omega.{arith}
 use Rattle.text_pieces.specs.TextLaws.{filled-written, writes_length}
 use Rattle.page_theory.specs.Widths.{heading_few}
 use Rattle.page_text.proofs.PartSteps.{heading-written}
-use borrow.Author.Rules.{rules}
 use Rattle.page_text.proofs.write_heading.Goals as goal
 
 pub write_blanks-end-requires : goal.write_blanks-end-requires

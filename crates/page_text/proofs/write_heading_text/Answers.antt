@@ -1,7 +1,6 @@
 use native.Mathlib.Omega.{arith}
 use Rattle.text_pieces.specs.TextLaws.{decimal_few, writes_room}
 use Rattle.page_text.proofs.PartSteps.{heading_text_lem}
-use borrow.Author.Rules.{rules}
 use Rattle.page_text.proofs.write_heading_text.Goals as goal
 
 pub write_decimal-middle-requires : goal.write_decimal-middle-requires

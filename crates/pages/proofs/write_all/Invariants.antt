@@ -1,10 +1,6 @@
 use Prim.Native.Nat.{◌-◌, ◌≤◌}
-use native.Mathlib.Omega.{arith}
-use Rattle.text_pieces.specs.TextLaws.{writes_length}
-use Rattle.label_theory.specs.Columns.{labels_fit}
-use Rattle.page_text.specs.PageSteps.{PagesSoFar, pages_start, heading_room, lines_room, pages_more, pages_all}
+use Rattle.page_text.specs.PageSteps.{PagesSoFar}
 use Rattle.label_column.specs.Columns.{layout_of}
-use borrow.Author.Rules.{rules}
 use Rattle.pages.proofs.write_all.Given as goal
 
 abbrev pub invariant-loop-page : goal.invariant-loop-page

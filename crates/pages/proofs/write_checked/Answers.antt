@@ -4,7 +4,6 @@ use Rattle.table_writer.specs.WritingLaws.{text_short, text_long}
 use Rattle.label_theory.specs.Columns.{labels_fit}
 use Rattle.page_text.specs.PageSteps.{pages_is, few_pages, count_is}
 use Rattle.label_column.specs.Columns.{layout_of}
-use borrow.Author.Rules.{rules}
 use Rattle.pages.proofs.write_checked.Goals as goal
 
 pub count_pages-pages-requires : goal.count_pages-pages-requires

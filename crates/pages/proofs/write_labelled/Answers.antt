@@ -1,9 +1,5 @@
 use mathlib.Core.Path.{refl}
 use Rattle.pages.proofs.CallSteps.{ready, as_loaded, not_loaded}
-use borrow.Author.Rules.{rules}
-use Rattle.label_sheet.proofs.read_sheet.Reads as read-sheet-reads
-use Rattle.pages.proofs.write_checked.Reads as write-checked-reads
-use Rattle.table_writer.proofs.Written.refused.Reads as refused-reads
 use Rattle.pages.proofs.write_labelled.Goals as goal
 
 pub read_sheet-word-requires : goal.read_sheet-word-requires

@@ -4,7 +4,6 @@ use Rattle.definitions.specs.Limits.{most_controls}
 use Rattle.text_pieces.specs.TextLaws.{writes_length}
 use Rattle.page_text.specs.PageSteps.{line-written}
 use Rattle.label_column.specs.Columns.{layout_of}
-use borrow.Author.Rules.{rules}
 use Rattle.pages.proofs.write_line.Goals as goal
 
 pub write_column-size-requires : goal.write_column-size-requires

@@ -1,12 +1,10 @@
 use Prim.Native.Nat.{◌-◌}
 use native.Mathlib.Omega.{arith}
-use lib.ListN.{length}
 use borrow.Author.Tests.{ltb-true, ltb-false}
 use Rattle.text_pieces.specs.TextLaws.{writes_length}
 use Rattle.label_theory.specs.Columns.{labels_fit}
-use Rattle.page_text.specs.PageSteps.{LinesSoFar, lines_start, line_room, line_more, lines_full, lines_end}
+use Rattle.page_text.specs.PageSteps.{lines_start, line_room, line_more, lines_full, lines_end}
 use Rattle.label_column.specs.Columns.{layout_of}
-use borrow.Author.Rules.{rules}
 use Rattle.pages.proofs.write_lines.Goals as goal
 
 pub next_entry-code-requires : goal.next_entry-code-requires

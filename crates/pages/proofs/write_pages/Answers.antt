@@ -1,6 +1,5 @@
 use Rattle.table_writer.specs.WritingLaws.{few_entries}
 use Rattle.pages.proofs.CallSteps.{as_written, as_refused}
-use borrow.Author.Rules.{rules}
 use Rattle.pages.proofs.write_pages.Goals as goal
 
 pub write_labelled-requires : goal.write_labelled-requires

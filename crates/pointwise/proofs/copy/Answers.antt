@@ -1,10 +1,8 @@
 use mathlib.Core.Path.{refl, ◌∙◌}
 use Prim.Native.Nat.{◌-◌}
 use native.Mathlib.Omega.{arith}
-use lib.ListN.{length}
-use Rattle.definitions.specs.Sums.{at}
 use Rattle.theory.specs.Lists.{tabulate_self}
-use Rattle.pointwise.specs.Filling.{Filling, fresh, next, full}
+use Rattle.pointwise.specs.Filling.{fresh, next, full}
 use Rattle.pointwise.proofs.copy.Goals as goal
 
 pub loop-i-init : goal.loop-i-init

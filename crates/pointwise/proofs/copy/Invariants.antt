@@ -1,10 +1,7 @@
-use mathlib.Core.Path.{refl, ◌∙◌}
 use Prim.Native.Nat.{◌-◌}
-use native.Mathlib.Omega.{arith}
 use lib.ListN.{length}
 use Rattle.definitions.specs.Sums.{at}
-use Rattle.theory.specs.Lists.{tabulate_self}
-use Rattle.pointwise.specs.Filling.{Filling, fresh, next, full}
+use Rattle.pointwise.specs.Filling.{Filling}
 use Rattle.pointwise.proofs.copy.Given as goal
 
 abbrev pub invariant-loop-i : goal.invariant-loop-i

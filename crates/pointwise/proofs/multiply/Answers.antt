@@ -1,10 +1,9 @@
 use mathlib.Core.Path.{ap, ◌∙◌}
 use Prim.Native.Nat.{ℕ, ◌*◌, ◌-◌, ◌%◌}
 use native.Mathlib.Omega.{arith}
-use lib.ListN.{length}
 use Rattle.definitions.specs.Sums.{at}
 use Rattle.theory.specs.Convolution.{point_table}
-use Rattle.pointwise.specs.Filling.{Filling, fresh, unset, next, full_residues}
+use Rattle.pointwise.specs.Filling.{fresh, unset, next, full_residues}
 use Rattle.pointwise.proofs.multiply.Goals as goal
 
 pub loop-i-init : goal.loop-i-init

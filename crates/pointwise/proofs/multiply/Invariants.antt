@@ -1,10 +1,7 @@
-use mathlib.Core.Path.{ap, ◌∙◌}
-use Prim.Native.Nat.{ℕ, ◌*◌, ◌-◌, ◌%◌}
-use native.Mathlib.Omega.{arith}
+use Prim.Native.Nat.{◌*◌, ◌-◌, ◌%◌}
 use lib.ListN.{length}
 use Rattle.definitions.specs.Sums.{at}
-use Rattle.theory.specs.Convolution.{point_table}
-use Rattle.pointwise.specs.Filling.{Filling, fresh, unset, next, full_residues}
+use Rattle.pointwise.specs.Filling.{Filling}
 use Rattle.pointwise.proofs.multiply.Given as goal
 
 abbrev pub invariant-loop-i : goal.invariant-loop-i

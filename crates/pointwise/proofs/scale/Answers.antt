@@ -1,9 +1,8 @@
 use mathlib.Core.Path.{ap, ◌∙◌}
 use Prim.Native.Nat.{ℕ, ◌*◌, ◌-◌, ◌%◌}
 use native.Mathlib.Omega.{arith}
-use lib.ListN.{length}
 use Rattle.definitions.specs.Sums.{at}
-use Rattle.pointwise.specs.Filling.{Filling, fresh, unset, next, full_residues}
+use Rattle.pointwise.specs.Filling.{fresh, unset, next, full_residues}
 use Rattle.pointwise.proofs.scale.Goals as goal
 
 pub loop-i-init : goal.loop-i-init

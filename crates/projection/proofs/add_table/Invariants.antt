@@ -1,12 +1,8 @@
-use mathlib.Core.Path.{◌≡◌, refl, ◌∙◌, ap₂, subst}
-use Prim.Native.Nat.{ℕ, ◌+◌, ◌-◌, ◌%◌, ◌≤◌}
-use native.Mathlib.Omega.{arith}
+use mathlib.Core.Path.{◌≡◌}
+use Prim.Native.Nat.{◌-◌, ◌≤◌}
 use lib.ListN.{length}
-use borrow.Author.Rules.{rules}
 use Rattle.ranked_theory.specs.Rows.{Placed}
-use Rattle.ranked_theory.specs.Places.{placed_none, placed_more}
 use Rattle.projection.specs.Places.{sum_at}
-use Rattle.projection.proofs.Adding.{at_source, at_target, both_below}
 use Rattle.projection.proofs.add_table.Given as goal
 
 abbrev pub invariant-loop-i : goal.invariant-loop-i

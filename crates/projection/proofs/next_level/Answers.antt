@@ -3,11 +3,10 @@ use mathlib.Core.List.{List}
 use Prim.Native.Nat.{ℕ, ◌+◌, ◌-◌, ◌^◌, ◌<◌, ◌≤◌}
 use native.Mathlib.Omega.{arith}
 use lib.ListN.{length}
-use borrow.Author.Rules.{rules}
 use borrow.Rule.Slice.PartMut.{put_mid}
 use Rattle.ranked_theory.specs.Rows.{Placed}
 use Rattle.projection.specs.Levels.{LevelReady}
-use Rattle.projection.proofs.Levels.{Turning, zeros_in, zeros_fit, zeros-placed, zeros_long, zeroed, level_from, turning_none, lower_fits, here_fits, turn_ready, turning_more, level_made}
+use Rattle.projection.proofs.Levels.{zeros_in, zeros_fit, zeros-placed, zeros_long, zeroed, level_from, turning_none, lower_fits, here_fits, turn_ready, turning_more, level_made}
 use Rattle.projection.proofs.next_level.Goals as goal
 
 pub overflow_add-end : goal.overflow_add-end

@@ -1,6 +1,5 @@
 use mathlib.Core.Path.{refl}
 use native.Mathlib.Omega.{arith}
-use borrow.Author.Rules.{rules}
 use Rattle.projection.proofs.Turns.{add_ready, within_ready, turn_made}
 use Rattle.projection.proofs.next_table.Goals as goal
 

@@ -2,8 +2,7 @@ use mathlib.Core.Path.{◌≡◌, refl, ap, subst, ◌∙◌}
 use Prim.Native.Nat.{ℕ, ◌+◌, ◌^◌, ◌≤◌}
 use native.Mathlib.Omega.{arith}
 use lib.ListN.{length}
-use borrow.Author.Rules.{rules}
-use Rattle.projection.proofs.Levels.{Projecting, table_in, table_fits, table_long, projecting_first, level_ready, projecting_more, row_in, row_fits, projected}
+use Rattle.projection.proofs.Levels.{table_in, table_fits, table_long, projecting_first, level_ready, projecting_more, row_in, row_fits, projected}
 use Rattle.projection.proofs.projection_row.Goals as goal
 
 pub overflow_add-second : goal.overflow_add-second

@@ -1,9 +1,5 @@
-use mathlib.Core.Path.{◌≡◌, refl, ap, subst, ◌∙◌}
-use Prim.Native.Nat.{ℕ, ◌+◌, ◌^◌, ◌≤◌}
-use native.Mathlib.Omega.{arith}
 use lib.ListN.{length}
-use borrow.Author.Rules.{rules}
-use Rattle.projection.proofs.Levels.{Projecting, table_in, table_fits, table_long, projecting_first, level_ready, projecting_more, row_in, row_fits, projected}
+use Rattle.projection.proofs.Levels.{Projecting}
 use Rattle.projection.proofs.projection_row.Given as goal
 
 abbrev pub invariant-loop-k : goal.invariant-loop-k

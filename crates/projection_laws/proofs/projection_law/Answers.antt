@@ -1,4 +1,3 @@
-use borrow.Author.Rules.{rules}
 use Rattle.laws_theory.specs.Theorem.{made_in_pad}
 use Rattle.projection_laws.specs.Theorem.{lawful}
 use Rattle.projection_laws.proofs.projection_law.Goals as goal

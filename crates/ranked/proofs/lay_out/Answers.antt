@@ -1,10 +1,8 @@
 use mathlib.Core.Path.{refl}
 use Prim.Native.Nat.{◌-◌, ◌^◌, ◌<◌}
 use native.Mathlib.Omega.{arith}
-use lib.ListN.{length}
 use Rattle.ranked_theory.specs.Layout.{place_in}
-use Rattle.ranked_theory.specs.Tables.{Laying, laying_none, laying_more, laying_all}
-use borrow.Author.Rules.{rules}
+use Rattle.ranked_theory.specs.Tables.{laying_none, laying_more, laying_all}
 use Rattle.ranked.proofs.lay_out.Goals as goal
 
 pub loop-h-init : goal.loop-h-init

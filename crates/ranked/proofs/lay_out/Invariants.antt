@@ -1,10 +1,6 @@
-use mathlib.Core.Path.{refl}
-use Prim.Native.Nat.{◌-◌, ◌^◌, ◌<◌}
-use native.Mathlib.Omega.{arith}
+use Prim.Native.Nat.{◌-◌}
 use lib.ListN.{length}
-use Rattle.ranked_theory.specs.Layout.{place_in}
-use Rattle.ranked_theory.specs.Tables.{Laying, laying_none, laying_more, laying_all}
-use borrow.Author.Rules.{rules}
+use Rattle.ranked_theory.specs.Tables.{Laying}
 use Rattle.ranked.proofs.lay_out.Given as goal
 
 abbrev pub invariant-loop-h : goal.invariant-loop-h

@@ -4,8 +4,7 @@ use native.Mathlib.Omega.{arith}
 use lib.ListN.{length, length-set}
 use Rattle.definitions.specs.Sums.{at}
 use Rattle.ranked_theory.specs.Layout.{place_in}
-use Rattle.ranked_theory.specs.Tables.{LayingBoth, laying_both_none, laying_both_more, laying_both_all}
-use borrow.Author.Rules.{rules}
+use Rattle.ranked_theory.specs.Tables.{laying_both_none, laying_both_more, laying_both_all}
 use Rattle.ranked.proofs.lay_out_both.Goals as goal
 
 -- both places are in the rows

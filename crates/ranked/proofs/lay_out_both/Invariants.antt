@@ -1,11 +1,6 @@
-use mathlib.Core.Path.{refl}
-use Prim.Native.Nat.{◌-◌, ◌^◌, ◌<◌}
-use native.Mathlib.Omega.{arith}
-use lib.ListN.{length, length-set}
-use Rattle.definitions.specs.Sums.{at}
-use Rattle.ranked_theory.specs.Layout.{place_in}
-use Rattle.ranked_theory.specs.Tables.{LayingBoth, laying_both_none, laying_both_more, laying_both_all}
-use borrow.Author.Rules.{rules}
+use Prim.Native.Nat.{◌-◌}
+use lib.ListN.{length}
+use Rattle.ranked_theory.specs.Tables.{LayingBoth}
 use Rattle.ranked.proofs.lay_out_both.Given as goal
 
 abbrev pub invariant-loop-h : goal.invariant-loop-h

@@ -1,6 +1,5 @@
 use mathlib.Core.Path.{◌∙◌}
 use Rattle.ranked_theory.specs.Tables.{read_product}
-use borrow.Author.Rules.{rules}
 use Rattle.ranked.proofs.multiply_both.Goals as goal
 
 pub returns : goal.returns

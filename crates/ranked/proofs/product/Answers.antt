@@ -1,6 +1,5 @@
 use native.Mathlib.Omega.{arith}
 use Rattle.ranked_theory.specs.Tables.{laid_ready}
-use borrow.Author.Rules.{rules}
 use Rattle.ranked.proofs.product.Goals as goal
 
 pub multiply_both-requires : goal.multiply_both-requires

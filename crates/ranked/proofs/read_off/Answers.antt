@@ -1,10 +1,8 @@
 use mathlib.Core.Path.{refl}
 use Prim.Native.Nat.{◌-◌, ◌^◌, ◌<◌}
 use native.Mathlib.Omega.{arith}
-use lib.ListN.{length}
 use Rattle.ranked_theory.specs.Layout.{result_in_lem}
-use Rattle.ranked_theory.specs.Tables.{Reading, reading_none, reading_more, reading_all}
-use borrow.Author.Rules.{rules}
+use Rattle.ranked_theory.specs.Tables.{reading_none, reading_more, reading_all}
 use Rattle.ranked.proofs.read_off.Goals as goal
 
 pub loop-h-init : goal.loop-h-init

@@ -1,10 +1,6 @@
-use mathlib.Core.Path.{refl}
-use Prim.Native.Nat.{◌-◌, ◌^◌, ◌<◌}
-use native.Mathlib.Omega.{arith}
+use Prim.Native.Nat.{◌-◌}
 use lib.ListN.{length}
-use Rattle.ranked_theory.specs.Layout.{result_in_lem}
-use Rattle.ranked_theory.specs.Tables.{Reading, reading_none, reading_more, reading_all}
-use borrow.Author.Rules.{rules}
+use Rattle.ranked_theory.specs.Tables.{Reading}
 use Rattle.ranked.proofs.read_off.Given as goal
 
 abbrev pub invariant-loop-h : goal.invariant-loop-h

@@ -1,9 +1,7 @@
 use mathlib.Core.Path.{ap}
 use Prim.Native.Nat.{ℕ, ◌-◌, ◌*◌}
 use native.Mathlib.Omega.{arith}
-use Rattle.ranked_theory.specs.Rows.{Added}
-use Rattle.ranked_theory.specs.RowSteps.{Passing, passing_none, passing_ready, passing_more, passing_all}
-use borrow.Author.Rules.{rules}
+use Rattle.ranked_theory.specs.RowSteps.{passing_none, passing_ready, passing_more, passing_all}
 use Rattle.ranked_rows.proofs.add_lower.Goals as goal
 
 pub overflow_mul-mid : goal.overflow_mul-mid

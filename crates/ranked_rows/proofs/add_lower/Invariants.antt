@@ -1,9 +1,6 @@
-use mathlib.Core.Path.{ap}
-use Prim.Native.Nat.{ℕ, ◌-◌, ◌*◌}
-use native.Mathlib.Omega.{arith}
+use Prim.Native.Nat.{◌-◌}
 use Rattle.ranked_theory.specs.Rows.{Added}
-use Rattle.ranked_theory.specs.RowSteps.{Passing, passing_none, passing_ready, passing_more, passing_all}
-use borrow.Author.Rules.{rules}
+use Rattle.ranked_theory.specs.RowSteps.{Passing}
 use Rattle.ranked_rows.proofs.add_lower.Given as goal
 
 abbrev pub invariant-loop-u : goal.invariant-loop-u

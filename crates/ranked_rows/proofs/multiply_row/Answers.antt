@@ -2,8 +2,7 @@ use mathlib.Core.Path.{◌∙◌}
 use Prim.Native.Nat.{◌+◌, ◌-◌, ◌*◌, ◌≤◌}
 use native.Mathlib.Omega.{arith}
 use lib.ListN.{length-set}
-use Rattle.ranked_theory.specs.Leaf.{Multiplying, multiplying_none, multiplying_more, multiplying_all, ranks_within}
-use borrow.Author.Rules.{rules}
+use Rattle.ranked_theory.specs.Leaf.{multiplying_none, multiplying_more, multiplying_all, ranks_within}
 use Rattle.ranked_rows.proofs.multiply_row.Goals as goal
 
 pub loop-e-init : goal.loop-e-init

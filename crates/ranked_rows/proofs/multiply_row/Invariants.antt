@@ -1,9 +1,5 @@
-use mathlib.Core.Path.{◌∙◌}
-use Prim.Native.Nat.{◌+◌, ◌-◌, ◌*◌, ◌≤◌}
-use native.Mathlib.Omega.{arith}
-use lib.ListN.{length-set}
-use Rattle.ranked_theory.specs.Leaf.{Multiplying, multiplying_none, multiplying_more, multiplying_all, ranks_within}
-use borrow.Author.Rules.{rules}
+use Prim.Native.Nat.{◌+◌, ◌-◌}
+use Rattle.ranked_theory.specs.Leaf.{Multiplying}
 use Rattle.ranked_rows.proofs.multiply_row.Given as goal
 
 abbrev pub invariant-loop-e : goal.invariant-loop-e

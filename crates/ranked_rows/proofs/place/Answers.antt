@@ -2,7 +2,6 @@ use mathlib.Core.Path.{◌≡◌, ap}
 use Prim.Native.Nat.{ℕ, ◌+◌, ◌*◌, ◌≤◌}
 use native.Mathlib.Omega.{arith}
 use Rattle.ranked_theory.specs.Layout.{place, rows_few, place_in}
-use borrow.Author.Rules.{rules}
 use Rattle.ranked_rows.proofs.place.Goals as goal
 
 small : (c : goal.After-struct_known-1) → let s = c.args in place s.n s.side s.h.0 ≤ 2228224

@@ -2,7 +2,6 @@ use mathlib.Core.Path.{◌≡◌, ap}
 use Prim.Native.Nat.{ℕ, ◌+◌, ◌*◌, ◌≤◌}
 use native.Mathlib.Omega.{arith}
 use Rattle.ranked_theory.specs.Layout.{result_place, rows_few, result_in_lem}
-use borrow.Author.Rules.{rules}
 use Rattle.ranked_rows.proofs.result_place.Goals as goal
 
 small : (c : goal.After-struct_known-1) → let s = c.args in result_place s.n s.h.0 ≤ 2228224

@@ -2,7 +2,6 @@ use mathlib.Core.Path.{◌≡◌, ap₂}
 use Prim.Native.Nat.{ℕ, ◌*◌, ◌^◌}
 use native.Mathlib.Omega.{arith}
 use Rattle.ranked_theory.specs.Layout.{width, rows_length, rows_few}
-use borrow.Author.Rules.{rules}
 use Rattle.ranked_rows.proofs.rows_length.Goals as goal
 
 all-rows : (n : ℕ) {k w : ℕ} → k ≡ 2 ^ n → w ≡ width n → k * w ≡ rows_length n

@@ -1,12 +1,11 @@
-use mathlib.Core.Path.{◌≡◌, sym, ap}
+use mathlib.Core.Path.{sym, ap}
 use Prim.Native.Nat.{ℕ, ◌+◌, ◌-◌, ◌*◌, ◌^◌, ◌<◌}
 use native.Mathlib.Omega.{arith}
 use lib.Pow.{pow_mono}
 use Rattle.definitions.specs.Sets.{size}
 use Rattle.theory.specs.Codes.{size-le, size_zero}
-use Rattle.ranked_theory.specs.Rows.{Subtracted, back_from, back_count}
-use Rattle.ranked_theory.specs.RowSteps.{Passing, passing_none, passing_ready, passing_more, passing_all, row_ready_as, row_step_as}
-use borrow.Author.Rules.{rules}
+use Rattle.ranked_theory.specs.Rows.{back_from, back_count}
+use Rattle.ranked_theory.specs.RowSteps.{passing_none, passing_ready, passing_more, passing_all, row_ready_as, row_step_as}
 use Rattle.ranked_rows.proofs.subtract_lower.Goals as goal
 
 pub overflow_mul-mid : goal.overflow_mul-mid

@@ -1,12 +1,8 @@
-use mathlib.Core.Path.{◌≡◌, sym, ap}
-use Prim.Native.Nat.{ℕ, ◌+◌, ◌-◌, ◌*◌, ◌^◌, ◌<◌}
-use native.Mathlib.Omega.{arith}
-use lib.Pow.{pow_mono}
+use mathlib.Core.Path.{◌≡◌}
+use Prim.Native.Nat.{◌+◌, ◌-◌}
 use Rattle.definitions.specs.Sets.{size}
-use Rattle.theory.specs.Codes.{size-le, size_zero}
-use Rattle.ranked_theory.specs.Rows.{Subtracted, back_from, back_count}
-use Rattle.ranked_theory.specs.RowSteps.{Passing, passing_none, passing_ready, passing_more, passing_all, row_ready_as, row_step_as}
-use borrow.Author.Rules.{rules}
+use Rattle.ranked_theory.specs.Rows.{Subtracted}
+use Rattle.ranked_theory.specs.RowSteps.{Passing}
 use Rattle.ranked_rows.proofs.subtract_lower.Given as goal
 
 abbrev pub invariant-loop-u : goal.invariant-loop-u

@@ -1,7 +1,6 @@
 use mathlib.Core.Path.{refl}
 use native.Mathlib.Omega.{arith}
 use Rattle.ranked_theory.specs.RowSteps as rows
-use borrow.Author.Rules.{rules}
 use Rattle.ranked_rows.proofs.subtract_row.Goals as goal
 
 pub subtract_run-requires : goal.subtract_run-requires

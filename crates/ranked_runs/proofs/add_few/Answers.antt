@@ -2,8 +2,7 @@ use native.Mathlib.Omega.{arith}
 use Prim.Native.Nat.{◌+◌, ◌-◌, ◌≤◌}
 use lib.ListN.{length, length-set}
 use Rattle.ranked_theory.specs.Rows.{plus}
-use Rattle.ranked_theory.specs.Runs.{Running, running_none, running_more, running_all, later_ready, first_ready, run-one}
-use borrow.Author.Rules.{rules}
+use Rattle.ranked_theory.specs.Runs.{running_none, running_more, running_all, later_ready, first_ready, run-one}
 use Rattle.ranked_runs.proofs.add_few.Goals as goal
 
 pub loop-i-init : goal.loop-i-init

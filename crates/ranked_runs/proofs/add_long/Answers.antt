@@ -1,8 +1,7 @@
 use native.Mathlib.Omega.{arith}
 use Prim.Native.Nat.{◌+◌, ◌-◌}
 use Rattle.ranked_theory.specs.Rows.{plus}
-use Rattle.ranked_theory.specs.Runs.{Running, running_none, running_more, later_ready, piece_ready, run_over, taken_placed}
-use borrow.Author.Rules.{rules}
+use Rattle.ranked_theory.specs.Runs.{running_none, running_more, later_ready, piece_ready, run_over, taken_placed}
 use Rattle.ranked_runs.proofs.add_long.Goals as goal
 
 pub sums-back-requires : goal.sums-back-requires

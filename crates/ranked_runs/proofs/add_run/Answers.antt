@@ -1,7 +1,6 @@
 use native.Mathlib.Omega.{arith}
 use Rattle.ranked_theory.specs.Rows.{plus}
 use Rattle.ranked_theory.specs.Runs.{fewer_ready, run-counted}
-use borrow.Author.Rules.{rules}
 use Rattle.ranked_runs.proofs.add_run.Goals as goal
 
 pub add_ends-requires : goal.add_ends-requires

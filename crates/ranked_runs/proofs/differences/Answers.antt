@@ -1,6 +1,5 @@
 use native.Mathlib.Omega.{arith}
 use Rattle.ranked_theory.specs.Runs.{first_ready, pair_ready}
-use borrow.Author.Rules.{rules}
 use Rattle.ranked_runs.proofs.differences.Goals as goal
 
 pub difference_at-requires : goal.difference_at-requires

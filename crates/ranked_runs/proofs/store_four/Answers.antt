@@ -1,5 +1,4 @@
 use Rattle.ranked_theory.specs.Runs.{placed_four, stores_within}
-use borrow.Author.Rules.{rules}
 use Rattle.ranked_runs.proofs.store_four.Goals as goal
 
 pub bounds-rows-at1 : goal.bounds-rows-at1

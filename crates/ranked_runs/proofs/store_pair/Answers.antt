@@ -4,7 +4,6 @@ use lib.ListN.{length-set}
 use Rattle.definitions.specs.Sums.{at}
 use Rattle.ranked_theory.specs.Rows.{stored}
 use Rattle.ranked_theory.specs.Runs.{run_two}
-use borrow.Author.Rules.{rules}
 use Rattle.ranked_runs.proofs.store_pair.Goals as goal
 
 pub bounds-rows-above : goal.bounds-rows-above

@@ -2,7 +2,6 @@ use native.Mathlib.Omega.{arith}
 use Prim.Native.Nat.{◌+◌}
 use Rattle.ranked_theory.specs.Rows.{minus}
 use Rattle.ranked_theory.specs.Runs.{fewer_ready, piece_ready, run_over, taken_placed}
-use borrow.Author.Rules.{rules}
 use Rattle.ranked_runs.proofs.subtract_ends.Goals as goal
 
 pub differences-front-requires : goal.differences-front-requires

@@ -1,9 +1,6 @@
-use native.Mathlib.Omega.{arith}
-use Prim.Native.Nat.{◌+◌, ◌-◌, ◌≤◌}
-use lib.ListN.{length, length-set}
+use Prim.Native.Nat.{◌-◌}
 use Rattle.ranked_theory.specs.Rows.{minus}
-use Rattle.ranked_theory.specs.Runs.{Running, running_none, running_more, running_all, later_ready, first_ready, run-one}
-use borrow.Author.Rules.{rules}
+use Rattle.ranked_theory.specs.Runs.{Running}
 use Rattle.ranked_runs.proofs.subtract_few.Given as goal
 
 abbrev pub invariant-loop-i : goal.invariant-loop-i

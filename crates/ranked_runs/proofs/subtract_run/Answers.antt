@@ -1,7 +1,6 @@
 use native.Mathlib.Omega.{arith}
 use Rattle.ranked_theory.specs.Rows.{minus}
 use Rattle.ranked_theory.specs.Runs.{fewer_ready, run-counted}
-use borrow.Author.Rules.{rules}
 use Rattle.ranked_runs.proofs.subtract_run.Goals as goal
 
 pub subtract_ends-requires : goal.subtract_ends-requires

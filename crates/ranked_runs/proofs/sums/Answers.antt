@@ -1,6 +1,5 @@
 use native.Mathlib.Omega.{arith}
 use Rattle.ranked_theory.specs.Runs.{first_ready, pair_ready}
-use borrow.Author.Rules.{rules}
 use Rattle.ranked_runs.proofs.sums.Goals as goal
 
 pub sum_at-requires : goal.sum_at-requires

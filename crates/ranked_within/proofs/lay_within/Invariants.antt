@@ -1,13 +1,7 @@
-use mathlib.Core.Path.{refl}
-use Prim.Native.Nat.{◌+◌, ◌-◌, ◌^◌, ◌<◌}
-use native.Mathlib.Omega.{arith}
-use lib.ListN.{length, length-set}
-use Rattle.definitions.specs.Sums.{at}
-use Rattle.ranked_theory.specs.Layout.{rows_length, place_in}
-use Rattle.ranked_theory.specs.Tables.{LayingBoth, laying_both_none}
-use borrow.Author.Rules.{rules}
+use Prim.Native.Nat.{◌-◌}
+use lib.ListN.{length}
+use Rattle.ranked_theory.specs.Tables.{LayingBoth}
 use Rattle.ranked_within.specs.Within.{table_at}
-use Rattle.ranked_within.proofs.Loops.{laying_more, laying_all}
 use Rattle.ranked_within.proofs.lay_within.Given as goal
 
 abbrev pub invariant-loop-h : goal.invariant-loop-h

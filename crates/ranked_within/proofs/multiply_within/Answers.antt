@@ -1,4 +1,3 @@
-use borrow.Author.Rules.{rules}
 use Rattle.ranked_within.proofs.Products.{both_ready, made}
 use Rattle.ranked_within.proofs.multiply_within.Goals as goal
 

@@ -1,9 +1,8 @@
-use mathlib.Core.Path.{◌≡◌, refl}
+use mathlib.Core.Path.{refl}
 use Prim.Native.Nat.{◌-◌, ◌^◌, ◌<◌}
 use native.Mathlib.Omega.{arith}
 use Rattle.ranked_theory.specs.Layout.{result_in_lem}
-use borrow.Author.Rules.{rules}
-use Rattle.ranked_within.proofs.Loops.{ReadingWithin, reading_none, reading_more, reading_all}
+use Rattle.ranked_within.proofs.Loops.{reading_none, reading_more, reading_all}
 use Rattle.ranked_within.proofs.read_within.Goals as goal
 
 pub loop-h-init : goal.loop-h-init

@@ -1,9 +1,6 @@
-use mathlib.Core.Path.{◌≡◌, refl}
-use Prim.Native.Nat.{◌-◌, ◌^◌, ◌<◌}
-use native.Mathlib.Omega.{arith}
-use Rattle.ranked_theory.specs.Layout.{result_in_lem}
-use borrow.Author.Rules.{rules}
-use Rattle.ranked_within.proofs.Loops.{ReadingWithin, reading_none, reading_more, reading_all}
+use mathlib.Core.Path.{◌≡◌}
+use Prim.Native.Nat.{◌-◌, ◌^◌}
+use Rattle.ranked_within.proofs.Loops.{ReadingWithin}
 use Rattle.ranked_within.proofs.read_within.Given as goal
 
 abbrev pub invariant-loop-h : goal.invariant-loop-h

@@ -1,7 +1,6 @@
 use native.Mathlib.Omega.{arith}
 use Rattle.recipe_machine.proofs.Places.{place_in}
 use Rattle.recipe_machine.proofs.Steps.{held_given, none_held}
-use borrow.Author.Rules.{rules}
 use Rattle.recipe_machine.proofs.give_back.Goals as goal
 
 pub restore-requires : goal.restore-requires

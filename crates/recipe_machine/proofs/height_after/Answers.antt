@@ -2,7 +2,6 @@ use Rattle.recipe_operations.specs.Codes.{sign_of}
 use native.Mathlib.Numerals.{add-one}
 use native.Mathlib.Omega.{arith}
 use Rattle.recipe_machine.proofs.Steps.{one_less}
-use borrow.Author.Rules.{rules}
 use Rattle.recipe_machine.proofs.height_after.Goals as goal
 
 pub overflow_add-result : goal.overflow_add-result

@@ -2,7 +2,6 @@ use mathlib.Core.Path.{ap₂}
 use Prim.Native.Nat.{ℕ, ◌+◌, ◌*◌}
 use native.Mathlib.Omega.{arith}
 use Rattle.recipe_machine.proofs.Places.{place_fits, pad_fits}
-use borrow.Author.Rules.{rules}
 use Rattle.recipe_machine.proofs.place_of.Goals as goal
 
 pub overflow_mul-result : goal.overflow_mul-result

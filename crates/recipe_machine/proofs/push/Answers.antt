@@ -2,7 +2,6 @@ use mathlib.Core.Path.{sym, ◌∙◌}
 use native.Mathlib.Omega.{arith}
 use Rattle.definitions.specs.Recipes.{tableA, tableB, tableC, tableD}
 use Rattle.recipe_machine.proofs.Places.{place_in}
-use borrow.Author.Rules.{rules}
 use Rattle.recipe_machine.proofs.push.Goals as goal
 
 pub save-requires : goal.save-requires

@@ -1,6 +1,5 @@
 use native.Mathlib.Omega.{arith}
 use Rattle.recipe_machine.proofs.Steps.{push_stepped, combine_stepped, apply_stepped, operands, operand}
-use borrow.Author.Rules.{rules}
 use Rattle.recipe_machine.proofs.step.Goals as goal
 
 pub push-requires : goal.push-requires

@@ -1,9 +1,7 @@
-use mathlib.Core.Path.{sym, ◌∙◌}
 use Prim.Native.Nat.{◌-◌}
-use native.Mathlib.Omega.{arith}
 use lib.ListN.{length}
 use Rattle.definitions.specs.Recipes.{lettered}
-use Rattle.recipe_machine.proofs.Runs.{Working, starts, space_still, is_code, can_next, refused_here, held_still, goes_on, worked_refused, worked_found, run_ended}
+use Rattle.recipe_machine.proofs.Runs.{Working}
 use Rattle.recipe_machine.proofs.work.Given as goal
 
 abbrev pub invariant-loop-i : goal.invariant-loop-i

@@ -1,5 +1,4 @@
 use Rattle.recipe_operations.proofs.Signs.{pair_ready, added}
-use borrow.Author.Rules.{rules}
 use Rattle.recipe_operations.proofs.add_at.Goals as goal
 
 pub add_places-requires : goal.add_places-requires

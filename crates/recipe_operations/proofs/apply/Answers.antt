@@ -1,4 +1,3 @@
-use borrow.Author.Rules.{rules}
 use Rattle.recipe_operations.proofs.apply.Goals as goal
 
 pub returns-in-Exponential : goal.returns-in-Exponential

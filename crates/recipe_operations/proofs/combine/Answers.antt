@@ -1,4 +1,3 @@
-use borrow.Author.Rules.{rules}
 use Rattle.recipe_operations.proofs.combine.Goals as goal
 
 pub returns-in-Xor : goal.returns-in-Xor

@@ -1,6 +1,5 @@
 use mathlib.Core.Path.{sym, ◌∙◌}
 use Rattle.recipe_operations.proofs.Functions.{used_long, exponential_ready, exponential_done, exponential_refused}
-use borrow.Author.Rules.{rules}
 use Rattle.recipe_operations.proofs.exponential_of.Goals as goal
 
 pub returns-then-word-ne0 : goal.returns-then-word-ne0

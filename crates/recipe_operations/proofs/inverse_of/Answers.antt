@@ -1,6 +1,5 @@
 use Rattle.composition.specs.Results.{result_ready, result_taken}
 use Rattle.recipe_operations.proofs.Functions.{has_first, used_long, front, composed_ready, inverse_done, inverse_refused}
-use borrow.Author.Rules.{rules}
 use Rattle.recipe_operations.proofs.inverse_of.Goals as goal
 
 pub bounds-res-0 : goal.bounds-res-0

@@ -1,7 +1,6 @@
 use mathlib.Core.Path.{sym, ◌∙◌}
 use Rattle.composition.specs.Results.{result_ready, result_taken}
 use Rattle.recipe_operations.proofs.Functions.{used_long, front, composed_ready, logarithm_done, logarithm_refused}
-use borrow.Author.Rules.{rules}
 use Rattle.recipe_operations.proofs.logarithm_of.Goals as goal
 
 pub returns-then-word-ne0 : goal.returns-then-word-ne0

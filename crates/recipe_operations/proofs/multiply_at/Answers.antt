@@ -1,5 +1,4 @@
 use Rattle.recipe_operations.proofs.Signs.{within_ready, multiplied}
-use borrow.Author.Rules.{rules}
 use Rattle.recipe_operations.proofs.multiply_at.Goals as goal
 
 pub multiply_within-requires : goal.multiply_within-requires

@@ -2,7 +2,6 @@ use mathlib.Core.Path.{ap, ◌∙◌}
 use Prim.Native.Nat.{ℕ}
 use lib.ListN.{length, take, drop}
 use Rattle.recipe_operations.specs.Places.{part_size}
-use borrow.Author.Rules.{rules}
 use Rattle.recipe_operations.proofs.restore.Goals as goal
 
 pub returns : goal.returns

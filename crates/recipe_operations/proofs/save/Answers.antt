@@ -1,5 +1,4 @@
 use Rattle.recipe_operations.specs.Places.{saved_as}
-use borrow.Author.Rules.{rules}
 use Rattle.recipe_operations.proofs.save.Goals as goal
 
 pub returns : goal.returns

@@ -1,5 +1,4 @@
 use Rattle.recipe_operations.proofs.Signs.{pair_ready, subtracted}
-use borrow.Author.Rules.{rules}
 use Rattle.recipe_operations.proofs.subtract_at.Goals as goal
 
 pub subtract_places-requires : goal.subtract_places-requires

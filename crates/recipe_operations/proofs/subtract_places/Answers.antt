@@ -2,7 +2,6 @@ use Rattle.definitions.specs.Sums.{tabulate}
 use Rattle.definitions.specs.Products.{residues}
 use Rattle.entrywise.specs.Rules.{difference_at}
 use Rattle.recipe_operations.proofs.Signs.{pair_inputs, pair_made}
-use borrow.Author.Rules.{rules}
 use Rattle.recipe_operations.proofs.subtract_places.Goals as goal
 
 pub subtract_entries-requires : goal.subtract_entries-requires

@@ -1,5 +1,4 @@
 use Rattle.recipe_operations.proofs.Signs.{both_ready, united}
-use borrow.Author.Rules.{rules}
 use Rattle.recipe_operations.proofs.union_at.Goals as goal
 
 pub convolve_in_place-requires : goal.convolve_in_place-requires

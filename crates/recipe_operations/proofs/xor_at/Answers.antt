@@ -1,6 +1,5 @@
 use mathlib.Core.Path.{sym, ◌∙◌}
 use Rattle.recipe_operations.proofs.Signs.{both_ready, scale_ready, xored, xor_refused, odd}
-use borrow.Author.Rules.{rules}
 use Rattle.recipe_operations.proofs.xor_at.Goals as goal
 
 pub returns-then-word-ne0 : goal.returns-then-word-ne0

@@ -1,7 +1,6 @@
 use borrow.Author.Tests.{ne_eqb}
 use Rattle.definitions.specs.Recipes.{alternative}
 use Rattle.recipe_words.proofs.Words.{no_sign, sign_here}
-use borrow.Author.Rules.{rules}
 use Rattle.recipe_words.proofs.alternative_sign.Goals as goal
 
 pub returns-then-line-at : goal.returns-then-line-at

@@ -1,6 +1,5 @@
 use native.Mathlib.Omega.{arith}
 use Rattle.recipe_words.proofs.Factors.{not-closed_end, not-closed, closed_plain, closed_call}
-use borrow.Author.Rules.{rules}
 use Rattle.recipe_words.proofs.closed.Goals as goal
 
 pub returns-then-line-next : goal.returns-then-line-next

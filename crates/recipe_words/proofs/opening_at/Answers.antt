@@ -1,6 +1,5 @@
 use mathlib.Core.Path.{sym, ◌∙◌}
 use Rattle.recipe_words.proofs.Words.{opens_group, opens_exponential, opens_logarithm, opens_inverse, opens_nothing}
-use borrow.Author.Rules.{rules}
 use Rattle.recipe_words.proofs.opening_at.Goals as goal
 
 pub returns-then-begins_with : goal.returns-then-begins_with

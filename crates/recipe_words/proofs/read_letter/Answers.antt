@@ -1,6 +1,5 @@
 use Rattle.recipe_words.specs.AnswerLaws.{is_read, is_refused}
 use Rattle.recipe_words.proofs.Factors.{letter_ends, letter_low, letter_high, letter_taken}
-use borrow.Author.Rules.{rules}
 use Rattle.recipe_words.proofs.read_letter.Goals as goal
 
 pub returns-then-line-at : goal.returns-then-line-at

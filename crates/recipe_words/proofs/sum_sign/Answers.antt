@@ -1,7 +1,6 @@
 use borrow.Author.Tests.{ne_eqb}
 use Rattle.definitions.specs.Recipes.{sum}
 use Rattle.recipe_words.proofs.Words.{no_sign, sign_here}
-use borrow.Author.Rules.{rules}
 use Rattle.recipe_words.proofs.sum_sign.Goals as goal
 
 pub returns-then-line-at : goal.returns-then-line-at

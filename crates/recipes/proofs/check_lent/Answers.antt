@@ -4,7 +4,6 @@ use Rattle.definitions.specs.Refusals.{first_word}
 use Rattle.definitions.specs.Recipes.{lettered, lent_word}
 use Rattle.checks.specs.Making.{panel_refused, panel_within, past_panel, these_words, ◌then◌, no_more, table_length}
 use Rattle.recipes.proofs.Accepted.{length_words}
-use borrow.Author.Rules.{rules}
 use Rattle.recipes.proofs.check_lent.Goals as goal
 
 pub returns-then-panel-ne0 : goal.returns-then-panel-ne0

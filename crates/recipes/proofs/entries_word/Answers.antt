@@ -2,7 +2,6 @@ use mathlib.Core.Path.{ap, ◌∙◌}
 use Rattle.definitions.specs.Refusals.{first_word}
 use Rattle.definitions.specs.Recipes.{entries_word}
 use Rattle.checks.specs.Making.{◌then◌, no_more}
-use borrow.Author.Rules.{rules}
 use Rattle.recipes.proofs.entries_word.Goals as goal
 
 pub returns : goal.returns

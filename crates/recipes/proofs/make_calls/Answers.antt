@@ -1,7 +1,6 @@
 use native.Mathlib.Nat.{le_refl}
 use Rattle.checks.specs.Ends.{part_long, front_cleared}
 use Rattle.recipes.proofs.Accepted.{usable, front_ready}
-use borrow.Author.Rules.{rules}
 use Rattle.recipes.proofs.make_calls.Goals as goal
 
 pub slice_bounds-work-end-2 : goal.slice_bounds-work-end-2

@@ -2,7 +2,6 @@ use mathlib.Core.Path.{refl, sym, ◌∙◌}
 use Rattle.checks.specs.Answers.{accepted, refused}
 use Rattle.recipes.proofs.Accepted.{lent_accepted, ready, are_tables, code_long, code_in, code_fits}
 use Rattle.recipes.proofs.Ends.{promised, lent_stops, line_stops, entries_stop, calls_end}
-use borrow.Author.Rules.{rules}
 use Rattle.recipes.proofs.recipe.Goals as goal
 
 pub returns-then-word-ne0 : goal.returns-then-word-ne0

@@ -1,5 +1,4 @@
 use Rattle.definitions.specs.Limits.{recipe_pad_length}
-use borrow.Author.Rules.{rules}
 use Rattle.recipes.proofs.recipe_pad_length.Goals as goal
 
 pub returns : goal.returns

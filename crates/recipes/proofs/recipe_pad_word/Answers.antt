@@ -1,5 +1,4 @@
 use borrow.Author.Tests.{lt-ltb, le-ltb}
-use borrow.Author.Rules.{rules}
 use Rattle.recipes.proofs.recipe_pad_word.Goals as goal
 
 pub returns-then-found-recipe_pad_length : goal.returns-then-found-recipe_pad_length

@@ -1,8 +1,6 @@
-use mathlib.Core.Path.{◌≡◌, ◌∙◌}
-use Prim.Native.Nat.{◌≤◌, ◌-◌}
-use lib.ListN.{length, take}
+use mathlib.Core.Path.{◌∙◌}
+use Prim.Native.Nat.{◌-◌}
 use borrow.Author.Rules.{rules}
-use Rattle.definitions.specs.Refusals.{entry_word}
 use Rattle.refusal_words.proofs.Prefixes.{entry_none, entry_above, entry_below, entry_whole}
 use Rattle.refusal_words.proofs.entry_word.Goals as goal
 use Rattle.refusal_words.proofs.entry_word.Goals.{then-m-a, else-m-a}

@@ -1,10 +1,7 @@
-use mathlib.Core.Path.{◌≡◌, ◌∙◌}
-use mathlib.Core.Logic.{⊎_elim}
+use mathlib.Core.Path.{◌≡◌}
 use Prim.Native.Nat.{◌≤◌, ◌-◌}
 use lib.ListN.{length, take}
-use borrow.Author.Rules.{rules}
 use Rattle.definitions.specs.Refusals.{entry_word}
-use Rattle.refusal_words.proofs.Prefixes.{entry_none, entry_above, entry_below, entry_whole}
 use Rattle.refusal_words.proofs.entry_word.Given as goal
 
 abbrev pub invariant-loop-i : goal.invariant-loop-i

@@ -1,10 +1,7 @@
-use mathlib.Core.Path.{◌≡◌, ◌∙◌, ap}
-use Prim.Native.Nat.{ℕ, ◌≤◌}
-use native.Mathlib.Omega.{arith}
+use mathlib.Core.Path.{◌≡◌}
+use Prim.Native.Nat.{◌≤◌}
 use lib.ListN.{length, drop}
-use borrow.Author.Rules.{rules}
 use Rattle.definitions.specs.Refusals.{first_word}
-use Rattle.refusal_words.proofs.Prefixes.{words_none, words_more}
 use Rattle.refusal_words.proofs.first_word.Given as goal
 
 abbrev pub invariant-loop-i : goal.invariant-loop-i

@@ -1,6 +1,5 @@
 use mathlib.Core.Path.{◌≡◌, refl}
 use Prim.Native.Nat.{ℕ, zero, suc}
-use borrow.Author.Rules.{rules}
 use Rattle.definitions.specs.Refusals.{or_else}
 use Rattle.refusal_words.proofs.or_else.Goals as goal
 

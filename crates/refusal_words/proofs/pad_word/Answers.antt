@@ -1,6 +1,5 @@
 use native.Mathlib.Omega.{arith}
 use borrow.Author.Tests.{lt-ltb, le-ltb}
-use borrow.Author.Rules.{rules}
 use Rattle.definitions.specs.Limits.{pad_length}
 use Rattle.refusal_words.proofs.pad_word.Goals as goal
 

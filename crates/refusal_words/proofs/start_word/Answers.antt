@@ -1,6 +1,5 @@
 use mathlib.Core.Path.{sym, ◌∙◌}
 use borrow.Author.Tests.{eq-eqb, ne_eqb}
-use borrow.Author.Rules.{rules}
 use Rattle.refusal_words.proofs.start_word.Goals as goal
 
 pub returns-then-first_entry-first : goal.returns-then-first_entry-first

@@ -1,11 +1,7 @@
-use mathlib.Core.Path.{◌≡◌, subst}
-use Prim.Native.Nat.{ℕ, ◌-◌, ◌%◌, ◌≤◌}
-use native.Mathlib.Nat.{mod-lt}
-use native.Mathlib.Omega.{arith}
-use borrow.Author.Rules.{rules}
+use mathlib.Core.Path.{◌≡◌}
+use Prim.Native.Nat.{◌-◌, ◌%◌, ◌≤◌}
 use Rattle.theory.specs.Rows.{inverse_row}
 use Rattle.series_rows.specs.InverseRows.{row_space, InverseRow}
-use Rattle.series_rows.proofs.RowSteps.{first_entry, no_entries, one_more, next_entry}
 use Rattle.series_rows.proofs.inverse_row.Given as goal
 
 abbrev pub invariant-loop-i : goal.invariant-loop-i

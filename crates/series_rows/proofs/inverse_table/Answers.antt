@@ -1,5 +1,4 @@
 use native.Mathlib.Omega.{arith}
-use borrow.Author.Rules.{rules}
 use Rattle.series_rows.proofs.RowSteps.{row_ready, inverse_by_row}
 use Rattle.series_rows.proofs.inverse_table.Goals as goal
 

@@ -1,4 +1,3 @@
-use borrow.Author.Rules.{rules}
 use Rattle.series_rows.proofs.RowSteps.{three_products}
 use Rattle.series_rows.proofs.next_entry.Goals as goal
 

@@ -1,7 +1,5 @@
-use native.Mathlib.Omega.{arith}
 use lib.ListN.{length}
-use borrow.Author.Rules.{rules}
-use Rattle.sparse_file.proofs.PairSteps.{Filling, none_filled, gap_stands, value_stands, code_inside, one-filled, all_filled}
+use Rattle.sparse_file.proofs.PairSteps.{Filling}
 use Rattle.sparse_file.proofs.fill_pairs.Given as goal
 
 abbrev pub invariant-loop-more : goal.invariant-loop-more

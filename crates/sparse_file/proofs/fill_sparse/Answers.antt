@@ -1,6 +1,5 @@
 use lib.ListN.{length}
 use Rattle.sparse_file.proofs.PairSteps.{cleared_long, cleared-zeros, count_stands, pairs_stand, count-again}
-use borrow.Author.Rules.{rules}
 use Rattle.sparse_file.proofs.fill_sparse.Goals as goal
 
 pub number_again-count-requires : goal.number_again-count-requires

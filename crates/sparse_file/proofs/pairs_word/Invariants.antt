@@ -1,8 +1,6 @@
-use native.Mathlib.Omega.{arith}
-use mathlib.Core.Path.{◌≡◌, refl, sym, ◌∙◌}
+use mathlib.Core.Path.{◌≡◌}
 use lib.ListN.{drop}
-use Rattle.sparse_file.proofs.PairSteps.{pairs_number, refused_as, pair_as, gap_left, turn_stops, turn_goes_on, tail, no_tail}
-use borrow.Author.Rules.{rules}
+use Rattle.sparse_file.proofs.PairSteps.{pairs_number}
 use Rattle.sparse_file.proofs.pairs_word.Given as goal
 
 abbrev pub invariant-loop-more : goal.invariant-loop-more

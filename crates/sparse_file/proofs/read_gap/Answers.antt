@@ -1,5 +1,4 @@
 use Rattle.sparse_file.proofs.PairSteps.{no_gap, a_gap, wide_gap}
-use borrow.Author.Rules.{rules}
 use Rattle.sparse_file.proofs.read_gap.Goals as goal
 
 pub returns-then-gap-left : goal.returns-then-gap-left

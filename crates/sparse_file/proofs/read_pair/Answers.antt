@@ -1,5 +1,4 @@
 use Rattle.sparse_file.proofs.PairSteps.{no_pair_gap, no_pair_value, a_pair}
-use borrow.Author.Rules.{rules}
 use Rattle.sparse_file.proofs.read_pair.Goals as goal
 
 pub returns-in-Number-read_value : goal.returns-in-Number-read_value

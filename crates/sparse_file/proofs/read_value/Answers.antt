@@ -1,5 +1,4 @@
 use Rattle.sparse_file.proofs.PairSteps.{no_value, zero_value, a_value, large_value}
-use borrow.Author.Rules.{rules}
 use Rattle.sparse_file.proofs.read_value.Goals as goal
 
 pub returns-then-value-eq0 : goal.returns-then-value-eq0

@@ -1,5 +1,4 @@
 use Rattle.sparse_file.proofs.PairSteps.{count_word, no_count-word}
-use borrow.Author.Rules.{rules}
 use Rattle.sparse_file.proofs.sparse_word.Goals as goal
 
 pub returns-in-Number : goal.returns-in-Number

@@ -3,7 +3,6 @@ use mathlib.Core.List.{[], ◌∷◌}
 use Rattle.definitions.specs.Refusals.{table_word}
 use Rattle.checks.specs.Words.{one_more_word}
 use Rattle.checks.specs.Making.{panel_refused, panel_within, past_panel, these_words, table_length}
-use borrow.Author.Rules.{rules}
 use Rattle.sparse_writer.proofs.check_length.Goals as goal
 
 pub returns-then-panel-ne0 : goal.returns-then-panel-ne0

@@ -1,8 +1,6 @@
 use Prim.Native.Nat.{◌-◌}
-use native.Mathlib.Omega.{arith}
 use lib.ListN.{length}
-use borrow.Author.Rules.{rules}
-use Rattle.sparse_writer.proofs.SizeSteps.{Measuring, none_measured, large_entry, one_measured, all_measured}
+use Rattle.sparse_writer.proofs.SizeSteps.{Measuring}
 use Rattle.sparse_writer.proofs.measure.Given as goal
 
 abbrev pub invariant-loop-code : goal.invariant-loop-code

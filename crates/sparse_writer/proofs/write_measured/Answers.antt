@@ -2,7 +2,6 @@ use native.Mathlib.Omega.{arith}
 use Rattle.definitions.specs.Files.{sparse}
 use Rattle.table_writer.specs.WritingLaws.{too_short, long_enough}
 use Rattle.sparse_writer.proofs.SizeSteps.{counted_long}
-use borrow.Author.Rules.{rules}
 use Rattle.sparse_writer.proofs.write_measured.Goals as goal
 
 pub returns-then-buffer-count : goal.returns-then-buffer-count

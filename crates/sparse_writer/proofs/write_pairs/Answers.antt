@@ -1,8 +1,6 @@
 use Prim.Native.Nat.{◌-◌}
 use native.Mathlib.Omega.{arith}
-use lib.ListN.{length}
-use borrow.Author.Rules.{rules}
-use Rattle.sparse_writer.proofs.SizeSteps.{Writing, none_written, gap_room, value_room, one_written, all_written}
+use Rattle.sparse_writer.proofs.SizeSteps.{none_written, gap_room, value_room, one_written, all_written}
 use Rattle.sparse_writer.proofs.write_pairs.Goals as goal
 
 pub loop-code-init : goal.loop-code-init

@@ -1,8 +1,6 @@
 use Prim.Native.Nat.{◌-◌}
-use native.Mathlib.Omega.{arith}
 use lib.ListN.{length}
-use borrow.Author.Rules.{rules}
-use Rattle.sparse_writer.proofs.SizeSteps.{Writing, none_written, gap_room, value_room, one_written, all_written}
+use Rattle.sparse_writer.proofs.SizeSteps.{Writing}
 use Rattle.sparse_writer.proofs.write_pairs.Given as goal
 
 abbrev pub invariant-loop-code : goal.invariant-loop-code

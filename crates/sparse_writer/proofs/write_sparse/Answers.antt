@@ -1,5 +1,4 @@
 use Rattle.sparse_writer.proofs.SizeSteps.{no_shape, few, some, few_entries, no_entries, sizes_are, as_written}
-use borrow.Author.Rules.{rules}
 use Rattle.sparse_writer.proofs.write_sparse.Goals as goal
 
 pub measure-requires : goal.measure-requires

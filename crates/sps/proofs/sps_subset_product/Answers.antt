@@ -1,6 +1,5 @@
 use mathlib.Core.Path.{ap₂, ◌∙◌}
 use Rattle.sps.specs.Packing.{with_number}
-use borrow.Author.Rules.{rules}
 use Rattle.sps.proofs.sps_subset_product.Goals as goal
 
 pub returns : goal.returns

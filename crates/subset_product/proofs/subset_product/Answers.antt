@@ -3,7 +3,6 @@ use Prim.Native.Nat.{ℕ}
 use native.Mathlib.Nat.{le_refl}
 use native.Mathlib.Omega.{arith}
 use lib.ListN.{length}
-use borrow.Author.Rules.{rules}
 use Rattle.definitions.specs.Products.{subset_table, degree}
 use Rattle.checks.specs.Accepted.{Product, product_accepted}
 use Rattle.checks.specs.Answers.{accepted, word_value}

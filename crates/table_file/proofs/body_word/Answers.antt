@@ -1,5 +1,4 @@
 use Rattle.table_file.proofs.ReaderSteps.{full_word, sparse_word}
-use borrow.Author.Rules.{rules}
 use Rattle.table_file.proofs.body_word.Goals as goal
 
 pub returns-in-Full : goal.returns-in-Full

@@ -1,10 +1,7 @@
-use mathlib.Core.Path.{◌≡◌, refl, sym, ◌∙◌, ap}
+use mathlib.Core.Path.{◌≡◌}
 use lib.ListN.{drop}
 use Rattle.definitions.specs.Outcomes.{number_of}
-use Rattle.number_groups.specs.NumberAnswers.{outcome_of}
 use Rattle.table_file.specs.Entries.{entries_to_end}
-use Rattle.table_file.proofs.ReaderSteps.{turn_stops, turn_goes_on, tail, no_tail}
-use borrow.Author.Rules.{rules}
 use Rattle.table_file.proofs.entries_word.Given as goal
 
 abbrev pub invariant-loop-left : goal.invariant-loop-left

@@ -1,5 +1,4 @@
 use Rattle.table_file.proofs.ReaderSteps.{full_stands, sparse_stands, full_fills, sparse_fills}
-use borrow.Author.Rules.{rules}
 use Rattle.table_file.proofs.fill_body.Goals as goal
 
 pub fill_table-requires : goal.fill_table-requires

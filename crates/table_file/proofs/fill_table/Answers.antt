@@ -1,7 +1,5 @@
 use Prim.Native.Nat.{◌-◌}
-use lib.ListN.{length}
-use Rattle.table_file.proofs.ReaderSteps.{FillingTable, none_filled, entry_stands, one-filled, all_filled}
-use borrow.Author.Rules.{rules}
+use Rattle.table_file.proofs.ReaderSteps.{none_filled, entry_stands, one-filled, all_filled}
 use Rattle.table_file.proofs.fill_table.Goals as goal
 
 pub loop-i-init : goal.loop-i-init

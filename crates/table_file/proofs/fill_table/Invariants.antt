@@ -1,7 +1,6 @@
 use Prim.Native.Nat.{◌-◌}
 use lib.ListN.{length}
-use Rattle.table_file.proofs.ReaderSteps.{FillingTable, none_filled, entry_stands, one-filled, all_filled}
-use borrow.Author.Rules.{rules}
+use Rattle.table_file.proofs.ReaderSteps.{FillingTable}
 use Rattle.table_file.proofs.fill_table.Given as goal
 
 abbrev pub invariant-loop-i : goal.invariant-loop-i

@@ -1,5 +1,4 @@
 use Rattle.table_file.proofs.ReaderSteps.{no_entry, an_entry, large_entry}
-use borrow.Author.Rules.{rules}
 use Rattle.table_file.proofs.read_entry.Goals as goal
 
 pub returns-then-entry-m : goal.returns-then-entry-m

@@ -1,5 +1,4 @@
 use Rattle.table_file.proofs.ReaderSteps.{no_header, few, no_table, table_stands, a_table}
-use borrow.Author.Rules.{rules}
 use Rattle.table_file.proofs.read_table.Goals as goal
 
 pub table_word-word-requires : goal.table_word-word-requires

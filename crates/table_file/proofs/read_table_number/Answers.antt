@@ -2,7 +2,6 @@ use native.Mathlib.Omega.{arith}
 use lib.ListN.{length}
 use Rattle.table_header.specs.Words.{small}
 use Rattle.table_file.specs.Words.{proper_table}
-use borrow.Author.Rules.{rules}
 use Rattle.table_file.proofs.read_table_number.Goals as goal
 
 pub packed_answer-requires : goal.packed_answer-requires

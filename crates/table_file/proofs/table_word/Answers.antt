@@ -1,7 +1,6 @@
 use mathlib.Core.Path.{sym, ◌∙◌}
 use Rattle.table_file.specs.Entries.{header_at}
 use Rattle.table_file.proofs.ReaderSteps.{wrong-length, right_length}
-use borrow.Author.Rules.{rules}
 use Rattle.table_file.proofs.table_word.Goals as goal
 
 pub returns-then-long-power : goal.returns-then-long-power

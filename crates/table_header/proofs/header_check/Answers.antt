@@ -1,5 +1,4 @@
 use Rattle.table_header.proofs.HeaderSteps.{refused_header, taken_header}
-use borrow.Author.Rules.{rules}
 use Rattle.table_header.proofs.header_check.Goals as goal
 
 pub returns-in-Opening : goal.returns-in-Opening

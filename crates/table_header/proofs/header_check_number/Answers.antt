@@ -1,7 +1,6 @@
 use native.Mathlib.Omega.{arith}
 use Rattle.definitions.specs.Limits.{most_controls}
 use Rattle.table_header.specs.Words.{small, proper_header}
-use borrow.Author.Rules.{rules}
 use Rattle.table_header.proofs.header_check_number.Goals as goal
 
 pub packed_answer-requires : goal.packed_answer-requires

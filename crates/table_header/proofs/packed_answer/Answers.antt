@@ -2,7 +2,6 @@ use mathlib.Core.Path.{ap}
 use native.Mathlib.Omega.{arith}
 use Rattle.table_header.specs.HeaderAnswers.{number_of_answer}
 use Rattle.table_header.proofs.HeaderSteps.{packed_header, packed_refusal}
-use borrow.Author.Rules.{rules}
 use Rattle.table_header.proofs.packed_answer.Goals as goal
 
 pub overflow_mul-result-in-Refused : goal.overflow_mul-result-in-Refused

@@ -1,6 +1,5 @@
 use mathlib.Core.Path.{sym, ◌∙◌}
 use Rattle.table_header.proofs.HeaderSteps.{no_number, no_modulus, a_modulus}
-use borrow.Author.Rules.{rules}
 use Rattle.table_header.proofs.read_modulus.Goals as goal
 
 pub returns-in-Modulus : goal.returns-in-Modulus

@@ -1,7 +1,6 @@
 use mathlib.Core.Path.{◌∙◌}
 use Rattle.definitions.specs.Files.{read_header}
 use Rattle.table_header.proofs.HeaderSteps.{no_number_first, no_first, behind_first_lem}
-use borrow.Author.Rules.{rules}
 use Rattle.table_header.proofs.read_opening.Goals as goal
 
 pub returns-in-First : goal.returns-in-First

@@ -1,8 +1,6 @@
 use Prim.Native.Nat.{◌-◌}
-use native.Mathlib.Omega.{arith}
 use lib.ListN.{length}
-use Rattle.table_writer.proofs.WriterSteps.{Counted, header_counted, entry_counted, all_counted}
-use borrow.Author.Rules.{rules}
+use Rattle.table_writer.proofs.WriterSteps.{Counted}
 use Rattle.table_writer.proofs.file_length.Given as goal
 
 abbrev pub invariant-loop-i : goal.invariant-loop-i

@@ -1,6 +1,5 @@
 use Rattle.definitions.specs.Files.{full}
 use Rattle.table_writer.specs.WritingLaws.{too_short, long_enough}
-use borrow.Author.Rules.{rules}
 use Rattle.table_writer.proofs.write_checked.Goals as goal
 
 pub returns-then-buffer-count : goal.returns-then-buffer-count

@@ -1,8 +1,6 @@
 use mathlib.Core.Path.{refl}
 use Prim.Native.Nat.{◌-◌}
-use lib.ListN.{length}
-use Rattle.table_writer.proofs.WriterSteps.{EntriesLeft, room, entry_written, entries_written}
-use borrow.Author.Rules.{rules}
+use Rattle.table_writer.proofs.WriterSteps.{room, entry_written, entries_written}
 use Rattle.table_writer.proofs.write_entries.Goals as goal
 
 pub loop-i-init : goal.loop-i-init

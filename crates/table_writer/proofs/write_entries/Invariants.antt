@@ -1,8 +1,6 @@
-use mathlib.Core.Path.{refl}
 use Prim.Native.Nat.{◌-◌}
 use lib.ListN.{length}
-use Rattle.table_writer.proofs.WriterSteps.{EntriesLeft, room, entry_written, entries_written}
-use borrow.Author.Rules.{rules}
+use Rattle.table_writer.proofs.WriterSteps.{EntriesLeft}
 use Rattle.table_writer.proofs.write_entries.Given as goal
 
 abbrev pub invariant-loop-i : goal.invariant-loop-i

@@ -3,7 +3,6 @@ use native.Mathlib.Omega.{arith}
 use lib.ListN.{length}
 use lib.Seq.{length-sets}
 use Rattle.table_writer.proofs.WriterSteps.{file_length, file_written}
-use borrow.Author.Rules.{rules}
 use Rattle.table_writer.proofs.write_file.Goals as goal
 
 pub write_number-second-requires : goal.write_number-second-requires

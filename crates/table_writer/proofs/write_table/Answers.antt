@@ -1,6 +1,5 @@
 use Rattle.definitions.specs.Files.{full, file_of}
 use Rattle.table_writer.specs.WritingLaws.{few_entries, as_written, as_refused, by_tests}
-use borrow.Author.Rules.{rules}
 use Rattle.table_writer.proofs.write_table.Goals as goal
 
 pub write_checked-requires : goal.write_checked-requires

@@ -1,9 +1,7 @@
-use borrow.Author.Rules.{rules}
 use native.Mathlib.Omega.{arith}
 use lib.ListN.{length-set}
 use Rattle.text_pieces.specs.TextLaws.{writes_length}
 use Rattle.text_pieces.proofs.PieceSteps.{one_digit, digit_written, digits_above, last_written}
-use Prim.Native.Nat.{ℕ, ◌<◌}
 use Rattle.text_pieces.proofs.+write_decimal.Goals as goal
 
 pub bounds-out-at : goal.bounds-out-at

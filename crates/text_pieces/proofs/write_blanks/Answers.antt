@@ -1,7 +1,7 @@
 use Prim.Native.Nat.{◌-◌}
 use native.Mathlib.Omega.{arith}
 use Rattle.text_pieces.specs.TextLaws.{writes_length}
-use Rattle.text_pieces.proofs.PieceSteps.{Blank, blanks_none, blanks_more, blanks_all}
+use Rattle.text_pieces.proofs.PieceSteps.{blanks_none, blanks_more, blanks_all}
 use borrow.Author.Rules.{rules}
 use Rattle.text_pieces.proofs.write_blanks.Goals as goal
 

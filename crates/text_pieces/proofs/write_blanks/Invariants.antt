@@ -1,8 +1,5 @@
 use Prim.Native.Nat.{◌-◌}
-use native.Mathlib.Omega.{arith}
-use Rattle.text_pieces.specs.TextLaws.{writes_length}
-use Rattle.text_pieces.proofs.PieceSteps.{Blank, blanks_none, blanks_more, blanks_all}
-use borrow.Author.Rules.{rules}
+use Rattle.text_pieces.proofs.PieceSteps.{Blank}
 use Rattle.text_pieces.proofs.write_blanks.Given as goal
 
 abbrev pub invariant-loop-place : goal.invariant-loop-place

@@ -1,5 +1,4 @@
 use Rattle.text_pieces.specs.TextLaws.{writes_one}
-use borrow.Author.Rules.{rules}
 use Rattle.text_pieces.proofs.write_byte.Goals as goal
 
 pub returns : goal.returns

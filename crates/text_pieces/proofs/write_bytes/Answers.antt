@@ -1,8 +1,5 @@
-use Prim.Native.Nat.{◌-◌, ◌+◌, ◌≤◌}
-use mathlib.Core.Path.{◌≡◌}
+use Prim.Native.Nat.{◌-◌}
 use native.Mathlib.Omega.{arith}
-use lib.ListN.{length, take}
-use Rattle.text_pieces.specs.Text.{Writes}
 use Rattle.text_pieces.specs.TextLaws.{writes_none, writes_length}
 use Rattle.text_pieces.proofs.PieceSteps.{byte_more, bytes_all}
 use borrow.Author.Rules.{rules}

@@ -1,11 +1,7 @@
 use Prim.Native.Nat.{◌-◌, ◌+◌, ◌≤◌}
 use mathlib.Core.Path.{◌≡◌}
-use native.Mathlib.Omega.{arith}
 use lib.ListN.{length, take}
 use Rattle.text_pieces.specs.Text.{Writes}
-use Rattle.text_pieces.specs.TextLaws.{writes_none, writes_length}
-use Rattle.text_pieces.proofs.PieceSteps.{byte_more, bytes_all}
-use borrow.Author.Rules.{rules}
 use Rattle.text_pieces.proofs.write_bytes.Given as goal
 
 abbrev pub invariant-loop-i : goal.invariant-loop-i

@@ -1,8 +1,7 @@
 use Prim.Native.Nat.{◌-◌}
 use native.Mathlib.Omega.{arith}
 use Rattle.text_pieces.specs.TextLaws.{writes_length}
-use Rattle.text_pieces.proofs.PieceSteps.{Aligning, left_none, left_more, left_all}
-use borrow.Author.Rules.{rules}
+use Rattle.text_pieces.proofs.PieceSteps.{left_none, left_more, left_all}
 use Rattle.text_pieces.proofs.write_left.Goals as goal
 
 pub loop-place-init : goal.loop-place-init

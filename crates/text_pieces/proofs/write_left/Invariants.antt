@@ -1,8 +1,5 @@
 use Prim.Native.Nat.{◌-◌}
-use native.Mathlib.Omega.{arith}
-use Rattle.text_pieces.specs.TextLaws.{writes_length}
-use Rattle.text_pieces.proofs.PieceSteps.{Aligning, left_none, left_more, left_all}
-use borrow.Author.Rules.{rules}
+use Rattle.text_pieces.proofs.PieceSteps.{Aligning}
 use Rattle.text_pieces.proofs.write_left.Given as goal
 
 abbrev pub invariant-loop-place : goal.invariant-loop-place

@@ -1,5 +1,4 @@
 use Rattle.transform_passes.proofs.Steps.{convolved}
-use borrow.Author.Rules.{rules}
 use Rattle.transform_passes.proofs.convolve.Goals as goal
 
 pub returns : goal.returns

@@ -1,8 +1,5 @@
-use Prim.Native.Nat.{◌-◌, ◌/◌, ◌+◌, ◌≤◌}
-use mathlib.Core.Path.{◌≡◌}
+use Prim.Native.Nat.{◌-◌}
 use native.Mathlib.Omega.{arith}
-use borrow.Author.Rules.{rules}
-use Rattle.transform_passes.specs.Steps.{Halves}
 use Rattle.transform_passes.proofs.Halving.{none, one_more, all}
 use Rattle.transform_passes.proofs.halved.Goals as goal
 

@@ -1,9 +1,6 @@
 use Prim.Native.Nat.{◌-◌, ◌/◌, ◌+◌, ◌≤◌}
 use mathlib.Core.Path.{◌≡◌}
-use native.Mathlib.Omega.{arith}
-use borrow.Author.Rules.{rules}
 use Rattle.transform_passes.specs.Steps.{Halves}
-use Rattle.transform_passes.proofs.Halving.{none, one_more, all}
 use Rattle.transform_passes.proofs.halved.Given as goal
 
 abbrev pub invariant-loop-i : goal.invariant-loop-i

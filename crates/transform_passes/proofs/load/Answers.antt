@@ -1,4 +1,3 @@
-use borrow.Author.Rules.{rules}
 use Rattle.transform_passes.proofs.load.Goals as goal
 
 pub apply-requires : goal.apply-requires

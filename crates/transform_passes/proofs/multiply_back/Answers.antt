@@ -1,5 +1,4 @@
 use Rattle.transform_passes.proofs.Steps.{multiplied}
-use borrow.Author.Rules.{rules}
 use Rattle.transform_passes.proofs.multiply_back.Goals as goal
 
 pub apply-requires : goal.apply-requires

@@ -3,7 +3,6 @@ use Prim.Native.Nat.{ℕ, ◌≤◌, ◌^◌}
 use mathlib.Core.List.{List}
 use lib.ListN.{length}
 use native.Mathlib.Omega.{arith}
-use borrow.Author.Rules.{rules}
 use Rattle.definitions.specs.Limits.{pad_length}
 use Rattle.checks.specs.Ends.{Lent, table_fits, part_long, clear_fits, front_cleared}
 use Rattle.transforms.proofs.product_by.Goals as goal

@@ -5,7 +5,6 @@ use Rattle.checks.specs.Answers.{accepted}
 use Rattle.checks.specs.Ends.{accepted_call, refused_call}
 use Rattle.transform_passes.specs.Made.{union_made}
 use Rattle.transforms.proofs.Calls.{inputs}
-use borrow.Author.Rules.{rules}
 use Rattle.transforms.proofs.union_product.Goals as goal
 
 pub product_by-requires : goal.product_by-requires

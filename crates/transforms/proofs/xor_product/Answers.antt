@@ -3,7 +3,6 @@ use Rattle.definitions.specs.Products.{xor_table}
 use Rattle.checks.specs.Answers.{accepted}
 use Rattle.checks.specs.Ends.{accepted_call, refused_call}
 use Rattle.transforms.proofs.Calls.{inputs, xor_accepted, xor_odd}
-use borrow.Author.Rules.{rules}
 use Rattle.transforms.proofs.xor_product.Goals as goal
 
 pub xor_tables-requires : goal.xor_tables-requires

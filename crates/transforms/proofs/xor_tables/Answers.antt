@@ -1,5 +1,4 @@
 use Rattle.transform_passes.specs.Made.{xor_made}
-use borrow.Author.Rules.{rules}
 use Rattle.transforms.proofs.xor_tables.Goals as goal
 
 pub returns : goal.returns

@@ -1,4 +1,3 @@
-use borrow.Author.Rules.{rules}
 use Rattle.checks.specs.Making.{also_go, also_stop, also_earlier}
 use Rattle.checks.proofs.Checked.also.Goals as goal
 

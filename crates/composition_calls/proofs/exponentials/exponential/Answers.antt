@@ -3,7 +3,6 @@ use Prim.Native.Nat.{ℕ}
 use native.Mathlib.Nat.{le_refl}
 use native.Mathlib.Omega.{arith}
 use lib.ListN.{length}
-use borrow.Author.Rules.{rules}
 use Rattle.definitions.specs.Partitions.{exponential_table}
 use Rattle.definitions.specs.Refusals.{exponential_number}
 use Rattle.checks.specs.Accepted.{Single}

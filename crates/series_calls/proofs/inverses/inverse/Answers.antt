@@ -3,7 +3,6 @@ use Prim.Native.Nat.{ℕ}
 use native.Mathlib.Nat.{le_refl}
 use native.Mathlib.Omega.{arith}
 use lib.ListN.{length}
-use borrow.Author.Rules.{rules}
 use Rattle.checks.specs.Accepted.{Single}
 use Rattle.checks.specs.Ends.{Lent, used_in, part_long, clear_fits, front_cleared, accepted_call, refused_call}
 use Rattle.composition.specs.Results.{result_ready, result_taken}

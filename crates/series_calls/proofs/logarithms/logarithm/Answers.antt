@@ -2,7 +2,6 @@ use Prim.Native.Nat.{ℕ}
 use native.Mathlib.Nat.{le_refl}
 use native.Mathlib.Omega.{arith}
 use lib.ListN.{length}
-use borrow.Author.Rules.{rules}
 use Rattle.definitions.specs.Refusals.{logarithm_number}
 use Rattle.theory.specs.Logarithm.{logarithm_of}
 use Rattle.checks.specs.Accepted.{Single}

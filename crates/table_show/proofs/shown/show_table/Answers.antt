@@ -2,7 +2,6 @@ use mathlib.Core.Path.{◌∙◌}
 use Rattle.table_file.specs.Entries.{header_at}
 use Rattle.text_pieces.specs.TextLaws.{writes_same}
 use Rattle.table_show.proofs.ShownSteps.{refused_text, contents_stand, file_text, table_fits}
-use borrow.Author.Rules.{rules}
 use Rattle.table_show.proofs.shown.show_table.Goals as goal
 
 pub returns-then-word-ne0 : goal.returns-then-word-ne0

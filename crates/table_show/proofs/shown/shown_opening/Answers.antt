@@ -1,4 +1,3 @@
-use borrow.Author.Rules.{rules}
 use Rattle.table_show.proofs.shown.shown_opening.Goals as goal
 
 pub returns : goal.returns

@@ -1,7 +1,6 @@
 use mathlib.Core.Path.{sym, ◌∙◌}
 use native.Mathlib.Omega.{arith}
 use Rattle.table_show.proofs.ShownSteps.{few_entries, part_long, no_header, few, behind_header_lem}
-use borrow.Author.Rules.{rules}
 use Rattle.table_show.proofs.shown.write_shown.Goals as goal
 
 pub power-count-requires : goal.power-count-requires

@@ -1,9 +1,7 @@
-use Prim.Native.Nat.{◌-◌, ◌≤◌}
+use Prim.Native.Nat.{◌-◌}
 use native.Mathlib.Omega.{arith}
-use lib.ListN.{length}
 use Rattle.text_pieces.specs.TextLaws.{writes_length}
-use Rattle.table_show.proofs.TextSteps.{LinesWritten, none_written, one_more, all_written}
-use borrow.Author.Rules.{rules}
+use Rattle.table_show.proofs.TextSteps.{none_written, one_more, all_written}
 use Rattle.table_show.proofs.text.write_entries.Goals as goal
 
 pub loop-code-init : goal.loop-code-init

@@ -3,7 +3,6 @@ use Rattle.sets.specs.Sizes.{size-le}
 use Rattle.text_pieces.specs.TextLaws.{writes_length}
 use Rattle.table_show.specs.TextLaws.{field_few}
 use Rattle.table_show.proofs.TextSteps.{no_line, a_line}
-use borrow.Author.Rules.{rules}
 use Rattle.table_show.proofs.text.write_entry.Goals as goal
 
 pub returns-then-value-eq0 : goal.returns-then-value-eq0

@@ -1,6 +1,5 @@
 use native.Mathlib.Omega.{arith}
 use Rattle.text_pieces.specs.TextLaws.{decimal_few, writes_length, writes_byte}
-use borrow.Author.Rules.{rules}
 use Rattle.table_show.proofs.text.write_field.Goals as goal
 
 pub write_decimal-end-requires : goal.write_decimal-end-requires

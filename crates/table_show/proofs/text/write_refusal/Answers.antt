@@ -2,7 +2,6 @@ use Rattle.text_pieces.specs.TextLaws.{writes_length}
 use native.Mathlib.Omega.{arith}
 use lib.ListN.{length-set}
 use Rattle.table_show.proofs.TextSteps.{refusal_written}
-use borrow.Author.Rules.{rules}
 use Rattle.table_show.proofs.text.write_refusal.Goals as goal
 
 pub bounds-out-1 : goal.bounds-out-1

@@ -2,7 +2,6 @@ use native.Mathlib.Omega.{arith}
 use Rattle.text_pieces.specs.TextLaws.{writes_length}
 use Rattle.table_show.specs.TextLaws.{field_few}
 use Rattle.table_show.proofs.TextSteps.{text-written}
-use borrow.Author.Rules.{rules}
 use Rattle.table_show.proofs.text.write_table_text.Goals as goal
 
 pub write_field-entries-requires : goal.write_field-entries-requires

@@ -1,5 +1,4 @@
 use Rattle.transform_passes.proofs.Controls.{none}
-use borrow.Author.Rules.{rules}
 use Rattle.transform_passes.proofs.Transform.apply.Goals as goal
 
 pub returns-then-n-lt2 : goal.returns-then-n-lt2

@@ -1,8 +1,7 @@
 use Prim.Native.Nat.{◌-◌}
 use native.Mathlib.Omega.{arith}
 use lib.ListN.{length-set}
-use Rattle.theory.specs.PassLoops.{Crossing, crossing_start, lower_read, upper_read, crossing_turn, crossing_end}
-use Rattle.transform_passes.specs.Steps.{lower_of, upper_of}
+use Rattle.theory.specs.PassLoops.{crossing_start, lower_read, upper_read, crossing_turn, crossing_end}
 use Rattle.transform_passes.proofs.Transform.cross.Goals as goal
 
 pub loop-t-init : goal.loop-t-init

@@ -1,7 +1,5 @@
 use Prim.Native.Nat.{◌-◌}
-use native.Mathlib.Omega.{arith}
-use lib.ListN.{length-set}
-use Rattle.theory.specs.PassLoops.{Crossing, crossing_start, lower_read, upper_read, crossing_turn, crossing_end}
+use Rattle.theory.specs.PassLoops.{Crossing}
 use Rattle.transform_passes.specs.Steps.{lower_of, upper_of}
 use Rattle.transform_passes.proofs.Transform.cross.Given as goal
 

@@ -1,7 +1,6 @@
 use native.Mathlib.Omega.{arith}
 use lib.ListN.{length-set}
 use Rattle.transform_passes.proofs.Fours.{four_below, four_stored}
-use borrow.Author.Rules.{rules}
 use Rattle.transform_passes.proofs.Transform.cross_four.Goals as goal
 
 pub four-y-requires : goal.four-y-requires

@@ -1,6 +1,6 @@
 use Prim.Native.Nat.{◌-◌}
 use native.Mathlib.Omega.{arith}
-use Rattle.transform_passes.proofs.Fours.{Crossing, start, end, room, can_cross, turn}
+use Rattle.transform_passes.proofs.Fours.{start, end, room, can_cross, turn}
 use Rattle.transform_passes.proofs.Transform.first_two.Goals as goal
 
 pub overflow_sub-n : goal.overflow_sub-n

@@ -1,6 +1,5 @@
 use Prim.Native.Nat.{◌-◌}
-use native.Mathlib.Omega.{arith}
-use Rattle.transform_passes.proofs.Fours.{Crossing, start, end, room, can_cross, turn}
+use Rattle.transform_passes.proofs.Fours.{Crossing}
 use Rattle.transform_passes.proofs.Transform.first_two.Given as goal
 
 abbrev pub invariant-loop-block : goal.invariant-loop-block

@@ -2,7 +2,6 @@ use mathlib.Core.Path.{refl, ◌∙◌}
 use native.Mathlib.Omega.{arith}
 use Rattle.theory.specs.Convolution.{add_lower, add_upper, take_upper}
 use Rattle.transform_passes.proofs.Fours.{joined, excluded}
-use borrow.Author.Rules.{rules}
 use Rattle.transform_passes.proofs.Transform.four.Goals as goal
 
 pub returns-in-Zeta : goal.returns-in-Zeta

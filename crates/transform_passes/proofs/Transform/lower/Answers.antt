@@ -1,4 +1,3 @@
-use borrow.Author.Rules.{rules}
 use Rattle.transform_passes.proofs.Transform.lower.Goals as goal
 
 pub returns-in-Walsh : goal.returns-in-Walsh

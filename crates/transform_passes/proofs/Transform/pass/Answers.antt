@@ -1,8 +1,7 @@
 use Prim.Native.Nat.{suc, ◌-◌}
 use native.Mathlib.Omega.{arith}
 use lib.Pow.{pow_mono}
-use Rattle.theory.specs.PassLoops.{Passing, passing_start, passing_length, block_fits, lent-size, lent_below, passing_turn, passing_end}
-use Rattle.transform_passes.specs.Steps.{lower_of, upper_of}
+use Rattle.theory.specs.PassLoops.{passing_start, passing_length, block_fits, lent-size, lent_below, passing_turn, passing_end}
 use Rattle.transform_passes.proofs.Transform.pass.Goals as goal
 
 pub power-half-requires : goal.power-half-requires

@@ -1,7 +1,5 @@
-use Prim.Native.Nat.{suc, ◌-◌}
-use native.Mathlib.Omega.{arith}
-use lib.Pow.{pow_mono}
-use Rattle.theory.specs.PassLoops.{Passing, passing_start, passing_length, block_fits, lent-size, lent_below, passing_turn, passing_end}
+use Prim.Native.Nat.{◌-◌}
+use Rattle.theory.specs.PassLoops.{Passing}
 use Rattle.transform_passes.specs.Steps.{lower_of, upper_of}
 use Rattle.transform_passes.proofs.Transform.pass.Given as goal
 

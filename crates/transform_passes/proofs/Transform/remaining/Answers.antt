@@ -1,6 +1,6 @@
 use Prim.Native.Nat.{◌-◌}
 use native.Mathlib.Omega.{arith}
-use Rattle.transform_passes.proofs.Controls.{Remaining, begun, pass_more, all}
+use Rattle.transform_passes.proofs.Controls.{begun, pass_more, all}
 use Rattle.transform_passes.proofs.Transform.remaining.Goals as goal
 
 pub loop-i-init : goal.loop-i-init

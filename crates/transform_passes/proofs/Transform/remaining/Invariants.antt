@@ -1,6 +1,5 @@
 use Prim.Native.Nat.{◌-◌}
-use native.Mathlib.Omega.{arith}
-use Rattle.transform_passes.proofs.Controls.{Remaining, begun, pass_more, all}
+use Rattle.transform_passes.proofs.Controls.{Remaining}
 use Rattle.transform_passes.proofs.Transform.remaining.Given as goal
 
 abbrev pub invariant-loop-i : goal.invariant-loop-i

@@ -1,4 +1,3 @@
-use borrow.Author.Rules.{rules}
 use Rattle.transform_passes.proofs.Transform.upper.Goals as goal
 
 pub returns-in-Zeta : goal.returns-in-Zeta
