@@ -12,7 +12,7 @@ import glob
 import re
 
 WORD = re.compile(r"[^\s(){}.;,@\"«»`]+")
-DECLARED = re.compile(r"(?m)^ *(?:(?:abbrev|unfoldable|pub) )*([^\s(){}.;,@\"«»:]+)(?: \{[^{}\n]*\})* :(?= )")
+DECLARED = re.compile(r"(?m)^ *(?:(?:abbrev|unfoldable|pub) )*([^\s(){}.;,@\"«»:]+)(?: \{[^{}\n]*\})* :(?=\s)")
 FUNCTION = re.compile(r"(?m)^(?:abbrev|unfoldable) (?:pub )?([^\s(){}.;,@\"«»:]+)(?: \{[^{}\n]*\})* :(?= )")
 RECORD = re.compile(r"(?m)^( *)(?:abbrev )?(?:pub )?record [^\n]*where\n((?:\1 +[^\n]*\n|\n)*)")
 FIELD = re.compile(r"(?m)^ +(?:pub )?([^\s(){}.;,@\"«»:]+) :(?= )")

@@ -12,7 +12,7 @@ use Rattle.definitions.specs.Sums.{at, sum, tabulate}
 use Rattle.definitions.specs.Rows.{choose, binomial_sum}
 use Rattle.theory.specs.Tests.{below_or}
 use Rattle.theory.specs.Lists.{filled, length-tabulate, at-tabulate, tabulate_ext, tabulate_of}
-use Rattle.theory.specs.Remainders.{mod-add, mod-mul, mul-mod_l}
+use Rattle.theory.specs.Remainders.{mod-add, mod-mul, mul_mod_l}
 use Rattle.theory.specs.Sums.{sum-mod}
 use Rattle.theory.specs.Binomial.{choose_none, choose_zero, choose_step}
 use Rattle.checks.specs.Accepted.{Entries}
@@ -96,4 +96,4 @@ module _ (m : ℕ) where
   entry f g i h =
       sum-mod m (suc i) (term_at (pascal_row m i) f g i) (λ j. choose i j * (at f j * at g (i - j)))
       (λ j l. ap (λ (x : ℕ). x * (at f j * at g (i - j)) % m) (pascal_at_lem m i j (omega arith))
-      ∙ sym (mul-mod_l m (choose i j) (at f j * at g (i - j))))
+      ∙ sym (mul_mod_l m (choose i j) (at f j * at g (i - j))))

@@ -78,9 +78,9 @@ module _ (n m S c : ℕ) (b : Board) where
   unfolding change_number
   change_accepted e = change_facts (all_zero (panel_word n ∷ modulus_word m ∷ change_words n m S c b) e)
 
-  set-and_weight : IsBoard n m b → change_number n m S c b ≡ first_word (empty_word S ∷ code_word n S ∷ weight_word m c ∷ [])
+  set_and_weight : IsBoard n m b → change_number n m S c b ≡ first_word (empty_word S ∷ code_word n S ∷ weight_word m c ∷ [])
   unfolding change_number
-  set-and_weight h = rw (
+  set_and_weight h = rw (
     range_panel h.range,
     range_modulus h.range,
     entries_length h.weights,
@@ -98,8 +98,8 @@ own_number n m (takes S c) = first_word (empty_word S ∷ code_word n S ∷ weig
 
 -- no change of an accepted board is refused for anything else
 pub own_number_lem : (n m : ℕ) (b : Board) (x : Change) → IsBoard n m b → number_on n m b x ≡ own_number n m x
-own_number_lem n m b (adds S c) h = set-and_weight n m S c b h
-own_number_lem n m b (takes S c) h = set-and_weight n m S c b h
+own_number_lem n m b (adds S c) h = set_and_weight n m S c b h
+own_number_lem n m b (takes S c) h = set_and_weight n m S c b h
 
 -- so accepted boards give a change the same number
 pub same_number : (n m : ℕ) (b c : Board) (x : Change) → IsBoard n m b → IsBoard n m c → number_on n m b x ≡ number_on n m c x

@@ -235,12 +235,12 @@ abbrev pub table_number : ℕ → ℕ → List ℕ → ℕ
 table_number n m a = first_word (panel_word n ∷ modulus_word m ∷ table_words n m a)
 
 module _ (n m long : ℕ) (a : List ℕ) where
-  list-facts :
+  list_facts :
       AllZero (panel_word n ∷ modulus_word m ∷ length_word long (length a) ∷ entry_word m a ∷ []) → InRange n m × Entries long m a
-  list-facts (k, (q, (la, (ea, z)))) = let i = in_range k q in (i, entries i la ea)
+  list_facts (k, (q, (la, (ea, z)))) = let i = in_range k q in (i, entries i la ea)
 
   pub list_accepted : list_number n m long a ≡ 0 → InRange n m × Entries long m a
-  list_accepted e = list-facts (all_zero (panel_word n ∷ modulus_word m ∷ length_word long (length a) ∷ entry_word m a ∷ []) e)
+  list_accepted e = list_facts (all_zero (panel_word n ∷ modulus_word m ∷ length_word long (length a) ∷ entry_word m a ∷ []) e)
 
   pub list_accepts : InRange n m → Entries long m a → list_number n m long a ≡ 0
   list_accepts i h = range_panel i and range_modulus i and entries_length h and entries_below h and refl

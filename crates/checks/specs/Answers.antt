@@ -3,7 +3,7 @@
 use Rattle.std.specs.Prelude.{◌≡◌, refl, List, ℕ, zero, suc}
 use Rattle.std.proofs.Common.{sym, ◌∙◌, ap, subst, suc-ne-zero}
 use Rattle.definitions.specs.Refusals.{or_else, after, value_after}
-use Rattle.theory.specs.Tests.{zero_is_not-one}
+use Rattle.theory.specs.Tests.{zero_is_not_one}
 use Rattle.residues.specs.Moduli.{Valid}
 use Rattle.residues.specs.declared.Modulus.{Modulus}
 use Rattle.checks.specs.Words.{or_else_stop, or_else_go, refused_list, refused_value}
@@ -31,7 +31,7 @@ pub is_refused : {m k w : ℕ} → w ≡ k → (w ≡ 0 → ⊥) → IsChecked m
 is_refused {w = w} e h =
     record {
       number_is = e;
-      stands = λ modulus d. absurd (zero_is_not-one (cc));
+      stands = λ modulus d. absurd (zero_is_not_one (cc));
       word = λ v d z. h (let same : w ≡ v = cc in same ∙ z);
     }
 
@@ -40,7 +40,7 @@ is_accepted {m} {modulus = modulus} e h =
     record {
       number_is = sym e;
       stands = λ other d. let same : modulus ≡ other = cc in subst (λ (x : Modulus). Stands x m) same h;
-      word = λ v d z. absurd (zero_is_not-one (cc));
+      word = λ v d z. absurd (zero_is_not_one (cc));
     }
 
 pub same_number : {m j k : ℕ} {r : Checked} → j ≡ k → IsChecked m j r → IsChecked m k r

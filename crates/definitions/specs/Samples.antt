@@ -50,29 +50,29 @@ unfolding read_shown read_header read_number first_of first_says read_entries re
 shown_sparse = refl
 
 -- a table of zeros, one entry at the last code, all entries nonzero
-pub sparse-edges :
+pub sparse_edges :
     (file_of sparse 2 7 (0 ∷ 0 ∷ 0 ∷ 0 ∷ []) ≡ 34 ∷ 7 ∷ 0 ∷ [])
     × (file_of sparse 2 7 (0 ∷ 0 ∷ 0 ∷ 6 ∷ []) ≡ 34 ∷ 7 ∷ 1 ∷ 3 ∷ 6 ∷ [])
     × (file_of sparse 1 7 (4 ∷ 2 ∷ []) ≡ 33 ∷ 7 ∷ 2 ∷ 0 ∷ 4 ∷ 0 ∷ 2 ∷ [])
 unfolding file_of groups_in nonzero_count pairs_from flat_map
-sparse-edges = (refl, refl, refl)
+sparse_edges = (refl, refl, refl)
 
 -- a first number says the kind and n; 17, 31 and 49 are word 1, before m is read
-pub first-numbers :
+pub first_numbers :
     (header_kind (16 ∷ 7 ∷ []) ≡ full) × (header_controls (16 ∷ 7 ∷ []) ≡ 16)
     × (header_kind (32 ∷ 7 ∷ []) ≡ sparse) × (header_controls (32 ∷ 7 ∷ []) ≡ 0)
     × (header_kind (48 ∷ 7 ∷ []) ≡ sparse) × (header_controls (48 ∷ 7 ∷ []) ≡ 16)
     × (header_number (17 ∷ []) ≡ 1) × (header_number (31 ∷ []) ≡ 1) × (header_number (49 ∷ []) ≡ 1)
 unfolding read_header read_number first_of first_says
-first-numbers = (refl, refl, refl, refl, refl, refl, refl, refl, refl)
+first_numbers = (refl, refl, refl, refl, refl, refl, refl, refl, refl)
 
 -- m behind it: none (8), 1 (2), the lowest and the largest; beside a refusal n and m are 0
-pub header-moduli :
+pub header_moduli :
     (header_number (34 ∷ []) ≡ 8) × (header_number (34 ∷ 1 ∷ []) ≡ 2) × (header_number (34 ∷ 2 ∷ []) ≡ 0)
     × (header_number (34 ∷ 0xFF ∷ 0xFF ∷ 0xFF ∷ 0xFF ∷ 0x0F ∷ []) ≡ 0)
     × (header_modulus (34 ∷ 7 ∷ []) ≡ 7) × (header_controls (34 ∷ 1 ∷ []) ≡ 0) × (header_modulus (34 ∷ 1 ∷ []) ≡ 0)
 unfolding read_header read_number first_of first_says
-header-moduli = (refl, refl, refl, refl, refl, refl, refl)
+header_moduli = (refl, refl, refl, refl, refl, refl, refl)
 
 -- 2 and 7 as a host gets them, and word 8
 pub host_numbers : (packed 2 7 0 ≡ 0x200000007) × (packed 0 0 8 ≡ 0x80000000000)
@@ -96,14 +96,14 @@ unfolding read_table read_header read_number first_of first_says
 length-between = (refl, refl, refl, refl)
 
 -- what the reader answers and leaves in a table of nines: the entries, of either kind, or the nines
-pub reader-leaves :
+pub reader_leaves :
     (table_read (2 ∷ 7 ∷ 6 ∷ 0 ∷ 0 ∷ 0 ∷ []) (9 ∷ 9 ∷ 9 ∷ 9 ∷ []) ≡ 6 ∷ 0 ∷ 0 ∷ 0 ∷ [])
     × (table_read (34 ∷ 7 ∷ 1 ∷ 0 ∷ 6 ∷ []) (9 ∷ 9 ∷ 9 ∷ 9 ∷ []) ≡ 6 ∷ 0 ∷ 0 ∷ 0 ∷ [])
     × (table_read (34 ∷ 7 ∷ 1 ∷ 0 ∷ 6 ∷ 0 ∷ []) (9 ∷ 9 ∷ 9 ∷ 9 ∷ []) ≡ 9 ∷ 9 ∷ 9 ∷ 9 ∷ [])
     × (reader_kind (34 ∷ 7 ∷ 0 ∷ []) 4 ≡ sparse) × (reader_controls (34 ∷ 7 ∷ 0 ∷ []) 4 ≡ 2) × (reader_modulus (34 ∷ 7 ∷ 0 ∷ []) 4 ≡ 7)
     × (reader_controls (34 ∷ 7 ∷ []) 4 ≡ 0) × (reader_modulus (34 ∷ 7 ∷ []) 4 ≡ 0)
 unfolding read_table read_header read_number first_of first_says read_entries read_gap read_value read_pair read_pairs zeros
-reader-leaves = (refl, refl, refl, refl, refl, refl, refl, refl)
+reader_leaves = (refl, refl, refl, refl, refl, refl, refl, refl)
 
 -- a count that is too large meets the end of the bytes (8) or a gap to code 4 (15) as its entries are read, if no other word comes
 -- first, also where it is above 4; one that is too small leaves bytes (9)
@@ -118,14 +118,14 @@ unfolding read_table read_header read_number first_of first_says read_gap read_v
 wrong-counts = (refl, refl, refl, refl, refl, refl)
 
 -- each where it is met: a gap to code 4 (15) before its value, a value of 0 (16), a value of m (5); in a full file an entry of m (5)
-pub wrong-entries :
+pub wrong_entries :
     (reader_number (34 ∷ 7 ∷ 1 ∷ 4 ∷ []) 4 ≡ 15)
     × (reader_number (34 ∷ 7 ∷ 2 ∷ 1 ∷ 3 ∷ 2 ∷ 0 ∷ []) 4 ≡ 15)
     × (reader_number (34 ∷ 7 ∷ 2 ∷ 1 ∷ 0 ∷ 2 ∷ 5 ∷ []) 4 ≡ 16)
     × (reader_number (34 ∷ 7 ∷ 2 ∷ 1 ∷ 7 ∷ 2 ∷ 5 ∷ []) 4 ≡ 5)
     × (reader_number (2 ∷ 7 ∷ 0 ∷ 3 ∷ 0 ∷ 7 ∷ []) 4 ≡ 5)
 unfolding read_table read_header read_number first_of first_says read_entries read_gap read_value read_pair read_pairs
-wrong-entries = (refl, refl, refl, refl, refl)
+wrong_entries = (refl, refl, refl, refl, refl)
 
 -- 16 comes before 5. No file shows it, for a value of 0 is below every m that is taken; a value read under m = 0 does
 pub zero_first : read_value 0 (0 ∷ []) ≡ refused 16
@@ -144,18 +144,18 @@ unfolding writer_number all_below
 writer_words kind = (refl, refl, refl, refl)
 
 -- a buffer that is one byte short (10), and one that just fits
-pub writer-room :
+pub writer_room :
     (writer_number full 2 7 (0 ∷ 3 ∷ 0 ∷ 5 ∷ []) 5 ≡ 10) × (writer_number full 2 7 (0 ∷ 3 ∷ 0 ∷ 5 ∷ []) 6 ≡ 0)
     × (writer_number sparse 2 7 (0 ∷ 3 ∷ 0 ∷ 5 ∷ []) 6 ≡ 10) × (writer_number sparse 2 7 (0 ∷ 3 ∷ 0 ∷ 5 ∷ []) 7 ≡ 0)
 unfolding writer_number all_below file_of groups_in nonzero_count pairs_from flat_map
-writer-room = (refl, refl, refl, refl)
+writer_room = (refl, refl, refl, refl)
 
 -- what they leave in a buffer of nines, and how many bytes they count
-pub writer-leaves :
+pub writer_leaves :
     (written_buffer full 0 7 (3 ∷ []) (9 ∷ 9 ∷ 9 ∷ 9 ∷ []) ≡ 0 ∷ 7 ∷ 3 ∷ 9 ∷ [])
     × (written_buffer sparse 0 7 (3 ∷ []) (9 ∷ 9 ∷ 9 ∷ 9 ∷ 9 ∷ 9 ∷ []) ≡ 32 ∷ 7 ∷ 1 ∷ 0 ∷ 3 ∷ 9 ∷ [])
     × (written_buffer sparse 0 7 (3 ∷ []) (9 ∷ 9 ∷ 9 ∷ 9 ∷ []) ≡ 9 ∷ 9 ∷ 9 ∷ 9 ∷ [])
     × (written_count sparse 0 7 (3 ∷ []) 6 ≡ 5)
     × (written_count sparse 0 7 (3 ∷ []) 4 ≡ 0)
 unfolding writer_number all_below file_of groups_in nonzero_count pairs_from flat_map
-writer-leaves = (refl, refl, refl, refl, refl)
+writer_leaves = (refl, refl, refl, refl, refl)

@@ -50,13 +50,13 @@ worked_any = ((refl, (refl, tt)), (refl, (refl, tt)))
 abbrev pub any : Board
 any = board (5 ∷ 5 ∷ 5 ∷ 5 ∷ 5 ∷ 5 ∷ 5 ∷ 5 ∷ []) (2 ∷ 1 ∷ 3 ∷ 4 ∷ 5 ∷ 0 ∷ 1 ∷ 2 ∷ []) (0 ∷ 5 ∷ 4 ∷ 3 ∷ 2 ∷ 1 ∷ 0 ∷ 5 ∷ [])
 
-pub worked-three :
+pub worked_three :
     Follow 3 6 any
     (step (adds 3 5) 0 (5 ∷ 5 ∷ 5 ∷ 4 ∷ 5 ∷ 5 ∷ 5 ∷ 5 ∷ []) (2 ∷ 1 ∷ 3 ∷ 2 ∷ 5 ∷ 0 ∷ 1 ∷ 3 ∷ []) (0 ∷ 5 ∷ 4 ∷ 3 ∷ 2 ∷ 1 ∷ 0 ∷ 1 ∷ []) ∷ [])
     × Follow 3 6 any
     (step (takes 3 2) 0 (5 ∷ 5 ∷ 5 ∷ 3 ∷ 5 ∷ 5 ∷ 5 ∷ 5 ∷ []) (2 ∷ 1 ∷ 3 ∷ 0 ∷ 5 ∷ 0 ∷ 1 ∷ 4 ∷ []) (0 ∷ 5 ∷ 4 ∷ 3 ∷ 2 ∷ 1 ∷ 0 ∷ 3 ∷ []) ∷ [])
 unfolding next change_number added_at raised_over lowered_over residues tabulate inside all_below
-worked-three = ((refl, (refl, tt)), (refl, (refl, tt)))
+worked_three = ((refl, (refl, tt)), (refl, (refl, tt)))
 
 -- with no control every set is 11 or 12
 pub worked_none : Follow 0 5 (fresh_board 0) (step (adds 0 1) 11 (0 ∷ []) (1 ∷ []) (1 ∷ []) ∷ step (takes 1 1) 12 (0 ∷ []) (1 ∷ []) (1 ∷ []) ∷ [])
@@ -92,7 +92,7 @@ worked_mixed = (refl, (refl, (refl, refl)))
 abbrev pub nines : List ℕ
 nines = 9 ∷ 9 ∷ 9 ∷ 9 ∷ []
 
-pub worked-fresh :
+pub worked_fresh :
     fresh_number 2 7 (board nines nines nines)
     ∷ fresh_number 17 1 (board [] nines nines)
     ∷ fresh_number 2 1 (board [] [] [])
@@ -102,13 +102,13 @@ pub worked-fresh :
     ∷ []
     ≡ 0 ∷ 1 ∷ 2 ∷ 3 ∷ 3 ∷ 3 ∷ []
 unfolding fresh_number
-worked-fresh = refl
+worked_fresh = refl
 
 -- a change with many faults, and then fewer; 3 ahead of 12; 12 in the place of 11; the four faults of word 5, each alone; none
 abbrev pub wrong : List ℕ
 wrong = 0 ∷ 0 ∷ 0 ∷ 101 ∷ []
 
-pub worked-refusals :
+pub worked_refusals :
     change_number 17 1 0 101 (board [] [] [])
     ∷ change_number 2 1 0 101 (board [] [] [])
     ∷ change_number 2 101 0 101 (board [] wrong wrong)
@@ -125,7 +125,7 @@ pub worked-refusals :
     ∷ []
     ≡ 1 ∷ 2 ∷ 3 ∷ 3 ∷ 3 ∷ 3 ∷ 11 ∷ 12 ∷ 5 ∷ 5 ∷ 5 ∷ 5 ∷ 0 ∷ []
 unfolding change_number all_below
-worked-refusals = refl
+worked_refusals = refl
 
 -- on a board that is not accepted nothing counts
 pub worked_nothing : total 2 101 (adds_at 2) (board wrong P P) (adds 2 7 ∷ adds 2 8 ∷ []) ≡ 0

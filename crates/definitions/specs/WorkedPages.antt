@@ -15,19 +15,19 @@ use Rattle.definitions.specs.Pages.{labelled, label_layout, wall_pages, pages_nu
 -- ---- filling and aligning
 
 -- to a width of 5, and a text that is longer than its width
-pub worked-widths :
+pub worked_widths :
     (filled 5 (97 ∷ 98 ∷ []) ≡ 97 ∷ 98 ∷ 32 ∷ 32 ∷ 32 ∷ []) × (aligned 5 (97 ∷ 98 ∷ []) ≡ 32 ∷ 32 ∷ 32 ∷ 97 ∷ 98 ∷ [])
     × (filled 1 (97 ∷ 98 ∷ []) ≡ 97 ∷ 98 ∷ []) × (aligned 1 (97 ∷ 98 ∷ []) ≡ 97 ∷ 98 ∷ [])
 unfolding filled aligned
-worked-widths = (refl, refl, refl, refl)
+worked_widths = (refl, refl, refl, refl)
 
 -- ---- sheets
 
 -- all bytes that a label may have: digits, capital and small letters
-pub letters-and-digits :
+pub letters_and_digits :
     keep alphanumeric (tabulate 256 (λ b. b)) ≡ tabulate 10 (λ i. 48 + i) ++ (tabulate 26 (λ i. 65 + i) ++ tabulate 26 (λ i. 97 + i))
 unfolding alphanumeric tabulate keep
-letters-and-digits = refl
+letters_and_digits = refl
 
 -- `gate`, `bar`, and c to p
 abbrev gate : List ℕ
@@ -63,55 +63,55 @@ of_each_length = flat_map (λ k. replicate (1 + k) 65 ∷ replicate (1 + k) 97 �
 abbrev last_differs : ℕ → List ℕ
 last_differs i = replicate 7 48 ++ ((65 + i % 8 + 32 * (i / 8)) ∷ [])
 
-pub worked-sheets :
+pub worked_sheets :
     (read_sheet park ≡ accepted park_labels) × (read_sheet long_park ≡ accepted long_labels)
     × (read_sheet (flat_map (λ l. length l ∷ l) of_each_length) ≡ accepted of_each_length)
     × (sheet_number (flat_map (λ i. 8 ∷ last_differs i) (tabulate 16 (λ i. i))) ≡ 0)
 unfolding read_sheet read_labels read_label read_bytes read_number alphanumeric twice among same tabulate flat_map
-worked-sheets = (refl, refl, refl, refl)
+worked_sheets = (refl, refl, refl, refl)
 
 -- so many labels of one byte, from a on
 abbrev letters_to : ℕ → List ℕ
 letters_to k = flat_map (λ i. 1 ∷ (97 + i) ∷ []) (tabulate k (λ i. i))
 
 -- a length: none, 80 00, 0, 9, 128 and 257 in two groups, 4294967295 and 4294967296 in five; 8, and nothing behind it
-pub length-words :
+pub length_words_lem :
     (sheet_number [] ≡ 8) × (sheet_number (128 ∷ 0 ∷ []) ≡ 8) × (sheet_number (0 ∷ []) ≡ 17) × (sheet_number (9 ∷ []) ≡ 17)
     × (sheet_number (128 ∷ 1 ∷ []) ≡ 17) × (sheet_number (129 ∷ 2 ∷ []) ≡ 17)
     × (sheet_number (255 ∷ 255 ∷ 255 ∷ 255 ∷ 15 ∷ []) ≡ 17) × (sheet_number (128 ∷ 128 ∷ 128 ∷ 128 ∷ 16 ∷ []) ≡ 8)
     × (sheet_number (8 ∷ []) ≡ 8)
 unfolding read_sheet read_labels read_label read_bytes read_number
-length-words = (refl, refl, refl, refl, refl, refl, refl, refl, refl)
+length_words_lem = (refl, refl, refl, refl, refl, refl, refl, refl, refl)
 
 -- a byte: + as the first and as the second of three, where the sheet ends behind it, and an early end without it; the same with
 -- `-` in the sixteenth label
-pub byte-words :
+pub byte_words :
     (sheet_number (3 ∷ 43 ∷ []) ≡ 17) × (sheet_number (3 ∷ 97 ∷ 43 ∷ []) ≡ 17) × (sheet_number (3 ∷ 97 ∷ 98 ∷ []) ≡ 8)
     × (sheet_number (letters_to 15 ++ (1 ∷ 45 ∷ [])) ≡ 17) × (sheet_number (letters_to 15 ++ (1 ∷ [])) ≡ 8)
 unfolding read_sheet read_labels read_label read_bytes read_number alphanumeric tabulate flat_map
-byte-words = (refl, refl, refl, refl, refl)
+byte_words = (refl, refl, refl, refl, refl)
 
 -- the end: a label too few and one too many, a byte behind the longest sheet; equal labels, with a tail and without, and with a bad byte behind them; labels that
 -- differ in case alone, or where one begins as the other
-pub end-words :
+pub end_words :
     (sheet_number (letters_to 15) ≡ 8) × (sheet_number (letters_to 16) ≡ 0) × (sheet_number (letters_to 17) ≡ 9)
     × (sheet_number (long_park ++ (0 ∷ [])) ≡ 9)
     × (sheet_number (letters_to 15 ++ (1 ∷ 97 ∷ 0 ∷ [])) ≡ 9) × (sheet_number (letters_to 15 ++ (1 ∷ 97 ∷ [])) ≡ 18)
     × (sheet_number (letters_to 15 ++ (1 ∷ 111 ∷ [])) ≡ 18) × (sheet_number (letters_to 2 ++ (letters_to 13 ++ (1 ∷ 32 ∷ []))) ≡ 17)
     × (sheet_number (letters_to 15 ++ (1 ∷ 65 ∷ [])) ≡ 0) × (sheet_number (letters_to 15 ++ (2 ∷ 97 ∷ 97 ∷ [])) ≡ 0)
 unfolding read_sheet read_labels read_label read_bytes read_number alphanumeric twice among same tabulate flat_map
-end-words = (refl, refl, refl, refl, refl, refl, refl, refl, refl, refl)
+end_words = (refl, refl, refl, refl, refl, refl, refl, refl, refl, refl)
 
 -- the letters, but the label of control j is that of control i
 abbrev again : ℕ → ℕ → List ℕ
 again i j = flat_map (λ k. 1 ∷ (97 + cond (eqb k j) i k) ∷ []) (tabulate 16 (λ k. k))
 
 -- each two of sixteen labels made equal; two equal labels of two bytes
-pub equal-pairs :
+pub equal_pairs :
     (flat_map (λ j. map (λ i. sheet_number (again i j)) (tabulate j (λ i. i))) (tabulate 16 (λ j. j)) ≡ replicate 120 18)
     × (sheet_number (letters_to 14 ++ (2 ∷ 97 ∷ 98 ∷ 2 ∷ 97 ∷ 98 ∷ [])) ≡ 18)
 unfolding read_sheet read_labels read_label read_bytes read_number alphanumeric twice among same tabulate flat_map
-equal-pairs = (refl, refl)
+equal_pairs = (refl, refl)
 
 -- ---- lines and headings
 
@@ -134,13 +134,13 @@ of_all_controls =
     ++ (flat_map (λ i. 43 ∷ long_label (1 + i)) (tabulate 15 (λ i. i))
     ++ (32 ∷ 49 ∷ 54 ∷ 32 ∷ 52 ∷ 50 ∷ 57 ∷ 52 ∷ 57 ∷ 54 ∷ 55 ∷ 50 ∷ 57 ∷ 52 ∷ 10 ∷ []))
 
-pub worked-lines :
+pub worked_lines :
     (line_of (label_layout park_labels) 0 7 ≡ of_no_control)
     × (line_of (label_layout park_labels) 1 9 ≡ of_control gate 139) × (line_of (label_layout park_labels) 32768 9 ≡ of_control (112 ∷ []) 142)
     × (line_of (label_layout park_labels) 11 12 ≡ of_three_controls)
     × (line_of (label_layout long_labels) 65535 4294967294 ≡ of_all_controls)
 unfolding line_of filled aligned behind_column labelled joined controls_of digits_in tabulate keep flat_map ones ones_in
-worked-lines = (refl, refl, refl, refl, refl)
+worked_lines = (refl, refl, refl, refl, refl)
 
 -- each control alone shows its own label
 pub each_alone : map (λ i. labelled park_labels (2 ^ i)) (tabulate 16 (λ i. i)) ≡ park_labels
@@ -162,24 +162,24 @@ worked_headings = (refl, refl)
 -- ---- pages
 
 -- a table of zeros; one with 7 at the empty set and 12 at {0, 1, 3}
-pub worked-pages :
+pub worked_pages :
     (wall_pages park (0 ∷ 0 ∷ []) ≡ first_of-one)
     × (wall_pages park (7 ∷ 0 ∷ 0 ∷ 0 ∷ 0 ∷ 0 ∷ 0 ∷ 0 ∷ 0 ∷ 0 ∷ 0 ∷ 12 ∷ 0 ∷ 0 ∷ 0 ∷ 0 ∷ []) ≡ first_of-one ++ (of_no_control ++ of_three_controls))
 unfolding read_sheet read_labels read_label read_bytes read_number alphanumeric twice among same filled aligned behind_column line_of heading_text heading nonzero_codes pages_for lines_of page_text pages_text controls_of labelled joined tabulate keep digits_in flat_map ones ones_in
-worked-pages = (refl, refl)
+worked_pages = (refl, refl)
 
 -- how many pages so many lines fill
-pub page-counts :
+pub page_counts :
     (pages_for 0 ≡ 1) × (pages_for 1 ≡ 1) × (pages_for 49 ≡ 1) × (pages_for 50 ≡ 1) × (pages_for 51 ≡ 2)
     × (pages_for 100 ≡ 2) × (pages_for 101 ≡ 3) × (pages_for 65536 ≡ 1311)
 unfolding pages_for
-page-counts = (refl, refl, refl, refl, refl, refl, refl, refl)
+page_counts = (refl, refl, refl, refl, refl, refl, refl, refl)
 
 -- 130 entries that are not 0: the sets of the first and of the third page
-pub page-sets :
+pub page_sets :
     (on_page (tabulate 130 (λ S. 1)) 0 ≡ tabulate 50 (λ i. i)) × (on_page (tabulate 130 (λ S. 1)) 2 ≡ tabulate 30 (λ i. 100 + i))
 unfolding nonzero_codes tabulate keep
-page-sets = (refl, refl)
+page_sets = (refl, refl)
 
 -- every second entry of 7 controls is not 0, at code 2 i the value i + 101: 64 lines on two pages, in a narrow layout, whose column is
 -- the code in decimal
@@ -192,16 +192,16 @@ narrow = record { column = decimal; column_width = 4; heading_width = 12 }
 abbrev lines_from : ℕ → ℕ → List ℕ
 lines_from first count = flat_map (λ i. line_of narrow (2 * i) (i + 101)) (tabulate count (λ k. first + k))
 
-pub two-pages :
+pub two_pages :
     pages_text narrow every_second ≡ (heading 12 1 2 ++ lines_from 0 50) ++ ((heading 12 2 2 ++ lines_from 50 14) ++ [])
 unfolding nonzero_codes pages_for lines_of page_text pages_text tabulate keep flat_map
-two-pages = refl
+two_pages = refl
 
 -- ---- the call
 
 -- its words in order: each where all behind it apply too, those of the sheet among themselves as above; 16 controls are not word 1,
 -- and the sheet counts for a table of zeros too
-pub page-words :
+pub page_words :
     (pages_number 17 1 (9 ∷ []) [] 0 ≡ 1)
     × (pages_number 2 1 (9 ∷ []) [] 0 ≡ 2)
     × (pages_number 16 7 (9 ∷ []) [] 0 ≡ 3)
@@ -211,20 +211,20 @@ pub page-words :
     × (pages_number 0 7 (6 ∷ []) (letters_to 17) 0 ≡ 9)
     × (pages_number 0 7 (6 ∷ []) (letters_to 15 ++ (1 ∷ 97 ∷ [])) 0 ≡ 18)
 unfolding pages_number all_below read_sheet read_labels read_label read_bytes read_number alphanumeric twice among same filled aligned behind_column line_of heading_text heading nonzero_codes pages_for lines_of page_text pages_text controls_of labelled joined tabulate keep digits_in flat_map ones ones_in
-page-words = (refl, refl, refl, refl, refl, refl, refl, refl, refl)
+page_words = (refl, refl, refl, refl, refl, refl, refl, refl, refl)
 
 -- sixteen labels whatever n is: as many as the panel has controls are too few
-pub sixteen-labels :
+pub sixteen_labels :
     map (λ n. pages_number n 7 (tabulate (2 ^ n) (λ S. 1)) (letters_to n) 0) (tabulate 5 (λ n. n)) ≡ replicate 5 8
 unfolding pages_number all_below read_sheet read_labels read_label read_bytes read_number alphanumeric tabulate flat_map
-sixteen-labels = refl
+sixteen_labels = refl
 
 -- a heading and a line, under the lowest modulus: 315 bytes are too few, 316 are enough; so are 158 for a heading alone
-pub page-room :
+pub page_room :
     (pages_number 0 2 (1 ∷ []) park 315 ≡ 10) × (pages_number 0 2 (1 ∷ []) park 316 ≡ 0)
     × (pages_number 0 7 (0 ∷ []) park 157 ≡ 10) × (pages_number 0 7 (0 ∷ []) park 158 ≡ 0)
 unfolding pages_number all_below read_sheet read_labels read_label read_bytes read_number alphanumeric twice among same filled aligned behind_column line_of heading_text heading nonzero_codes pages_for lines_of page_text pages_text controls_of labelled joined tabulate keep digits_in flat_map ones ones_in
-page-room = (refl, refl, refl, refl)
+page_room = (refl, refl, refl, refl)
 
 -- sheets that are refused by 8, 17, 9 and 18
 abbrev bad_sheets : List (List ℕ)
@@ -232,7 +232,7 @@ bad_sheets = [] ∷ (0 ∷ park) ∷ letters_to 17 ∷ (letters_to 15 ++ (1 ∷ 
 
 -- what it leaves in a buffer that counts from 0, and how many bytes it counts: the pages and the bytes behind them; where it is
 -- refused, for room, for an entry, for a length or for the sheet, the buffer
-pub page-leaves :
+pub page_leaves :
     (pages_buffer 0 7 (0 ∷ []) park (tabulate 160 (λ i. i)) ≡ first_of-one ++ (158 ∷ 159 ∷ []))
     × (pages_buffer 0 7 (0 ∷ []) park (tabulate 157 (λ i. i)) ≡ tabulate 157 (λ i. i))
     × (pages_buffer 0 7 (7 ∷ []) park (tabulate 316 (λ i. i)) ≡ tabulate 316 (λ i. i))
@@ -242,4 +242,4 @@ pub page-leaves :
     × (pages_written 0 7 (0 ∷ []) park 157 ≡ 0) × (pages_written 0 7 (7 ∷ []) park 316 ≡ 0)
     × (map (λ sheet. pages_written 0 7 (6 ∷ []) sheet 316) bad_sheets ≡ replicate 4 0)
 unfolding pages_number all_below read_sheet read_labels read_label read_bytes read_number alphanumeric twice among same filled aligned behind_column line_of heading_text heading nonzero_codes pages_for lines_of page_text pages_text controls_of labelled joined tabulate keep digits_in flat_map ones ones_in
-page-leaves = (refl, refl, refl, refl, refl, refl, refl, refl, refl, refl)
+page_leaves = (refl, refl, refl, refl, refl, refl, refl, refl, refl, refl)

@@ -50,12 +50,12 @@ module _ (n m : ℕ) (by : Choice n m) (a b c d : List ℕ) where
       says (only (chain (chain (operand (table tableA)) union (only (table tableB))) xor (only (table tableC)))) (omega arith) (omega arith)
 
   -- inv(A)*log(exp(B)): the inverse of A, then the exponential of B, then the logarithm of that, then the subset product of the two
-  pub left-operand-first :
+  pub left_operand_first :
       Worth (105 ∷ 110 ∷ 118 ∷ 40 ∷ 65 ∷ 41 ∷ 42 ∷ 108 ∷ 111 ∷ 103 ∷ 40 ∷ 101 ∷ 120 ∷ 112 ∷ 40 ∷ 66 ∷ 41 ∷ 41 ∷ [])
       (and_then (opening_call n m by inverse a)
       (λ x. and_then (and_then (opening_call n m by exponential b) (opening_call n m by logarithm)) (λ y. sign_call n m times x y)))
   unfolding text nesting worth
-  left-operand-first =
+  left_operand_first =
       says (only (only (chain (only (inside inverse (alone (table tableA)))) times (inside logarithm (alone (inside exponential (alone (table tableB))))))))
       (omega arith) (omega arith)
 
@@ -81,8 +81,8 @@ module _ (by : Choice 0 101) (pad : List ℕ) (long : length pad ≡ 36) where
   call_accepted = rw long (refl, (refl, refl))
 
   -- a line outside the grammar and an entry that is not below m: 13, and nothing changes
-  pub line-before-entries :
+  pub line_before_entries :
       (recipe_number 0 101 (refused 13) (lent 101) by (9 ∷ []) pad ≡ 13)
       × ((recipe_result 0 101 (refused 13) (lent 101) by (9 ∷ []) pad ≡ (9 ∷ [])) × (recipe_pad 0 101 (refused 13) (lent 101) 1 pad ≡ pad))
   unfolding recipe_outcome tested lent_word entries_word recipe_pad_length pad_length
-  line-before-entries = rw long (refl, (refl, refl))
+  line_before_entries = rw long (refl, (refl, refl))

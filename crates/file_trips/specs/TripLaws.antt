@@ -1,7 +1,7 @@
 -- The round trip of the calls, from what the calls promise.
 --   TripOfCalls, trip_of_calls   the statement, over both kinds and both ways, and its proof
 --   not_written, part_fits, part_long, read-back   writing and then reading
---   not_read, read_and-written                     reading and then writing
+--   not_read, read_and_written                     reading and then writing
 use Rattle.std.specs.Prelude.{◌≡◌, refl, true, List, ◌++◌, ℕ, zero, suc, ◌≤◌, ltb, length, drop, take}
 use Rattle.std.proofs.Common.{sym, ◌∙◌, ap, subst, arith, length-append}
 use Rattle.std.proofs.Math.Seq.{take-append_seam}
@@ -9,7 +9,7 @@ use Rattle.definitions.specs.Outcomes.{Outcome, accepted, refused, unless, numbe
 use Rattle.definitions.specs.Refusals.{word_if, or_else, table_word, after, value_after, AcceptedTable}
 use Rattle.definitions.specs.Partitions.{all_below}
 use Rattle.definitions.specs.Files.{Kind, full, TableFile, file_of, writer_number, read_table}
-use Rattle.theory.specs.Tests.{zero_is_not-one}
+use Rattle.theory.specs.Tests.{zero_is_not_one}
 use Rattle.checks.specs.Words.{or_else_go, or_else_stop, or_else_first, refused_list, refused_value}
 use Rattle.checks.specs.Accepted.{table_number}
 use Rattle.table_header.specs.HeaderAnswers.{AnswerIs, kind_is}
@@ -142,7 +142,7 @@ module _ (bytes table buffer : List ℕ) (b : all_below 256 bytes ≡ true) wher
       ∙ or_else_stop word (word_if (ltb (length buffer) (length bytes)) 10) no in
       record {
         read = read;
-        written = λ h f. absurd (zero_is_not-one (cc));
+        written = λ h f. absurd (zero_is_not_one (cc));
         number_is = sym same;
         count_is = rw same (refused_value word (length bytes) no);
         same_bytes = rw same (refused_list word (bytes ++ drop (length bytes) buffer) buffer no);
@@ -160,10 +160,10 @@ module _ (bytes table buffer : List ℕ) (b : all_below 256 bytes ≡ true) wher
     form : bytes ≡ file_of t.kind t.controls t.modulus t.entries
     form = (round_trip.forth bytes (length table) t b e).1
 
-  pub read_and-written : {h : _} {w : Written} {table-last buffer-last : List ℕ} → ReadBy bytes table (Header h) table-last →
+  pub read_and_written : {h : _} {w : Written} {table-last buffer-last : List ℕ} → ReadBy bytes table (Header h) table-last →
       WrittenBy (kind_is h.kind) h.n h.m table-last (writer_number (kind_is h.kind) h.n h.m table-last (length buffer)) buffer w buffer-last →
       ReadThenWritten bytes table buffer (record { written = w; answer = Header h }) table-last buffer-last
-  read_and-written {h} {w} {table-last} {buffer-last} read by =
+  read_and_written {h} {w} {table-last} {buffer-last} read by =
       let a = accepts (read_table bytes (length table)) (proper_table bytes (length table)) (sym read.answer.number_is) in
       let t = a.0 in
       let kind-same : kind_is h.kind ≡ t.kind = read.answer.kind_agrees ∙ ap (value_or full (λ (f : TableFile). f.kind)) a.1 in
@@ -201,5 +201,5 @@ pub record TripOfCalls : Type 0 where
 pub trip_of_calls : TripOfCalls
 trip_of_calls = record {
   there = λ kind n m a buffer back w last by z r Back-last read. read_back kind n m a buffer back by z read;
-  again = λ bytes table buffer b h table-last read w buffer-last by. read_and-written bytes table buffer b read by;
+  again = λ bytes table buffer b h table-last read w buffer-last by. read_and_written bytes table buffer b read by;
 }

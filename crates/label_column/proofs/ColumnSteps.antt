@@ -18,7 +18,7 @@ use Rattle.definitions.specs.Sums.{tabulate, keep, at}
 use Rattle.definitions.specs.Sets.{size}
 use Rattle.definitions.specs.Sheets.{label_of}
 use Rattle.definitions.specs.Pages.{blanks, filled, has, controls_of, joined, labelled}
-use Rattle.theory.specs.Tests.{below_or, zero_is_not-one}
+use Rattle.theory.specs.Tests.{below_or, zero_is_not_one}
 use Rattle.theory.specs.Lists.{length-tabulate}
 use Rattle.text_pieces.specs.Text.{Writes}
 use Rattle.text_pieces.specs.TextLaws.{writes_same, writes_one, writes_inside, writes_again, writes_there, writes_length}
@@ -236,7 +236,7 @@ module _ {S : ℕ} {array : List ℕ} {first : ℕ} {old out : List ℕ} {rest p
   module _ (some : 0 < rest) {i : ℕ} (l : Lowest rest i) where
     behind : s.control ≤ i
     behind = ⊎_elim
-        (λ (h : i < s.control). absurd (zero_is_not-one (sym (low i h) ∙ l.bit)))
+        (λ (h : i < s.control). absurd (zero_is_not_one (sym (low i h) ∙ l.bit)))
         (λ (h : s.control ≤ i). h)
         (below_or i s.control)
 

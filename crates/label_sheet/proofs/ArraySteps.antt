@@ -16,7 +16,7 @@ use Rattle.definitions.specs.Sums.{at}
 use Rattle.definitions.specs.Outcomes.{Outcome, value_or}
 use Rattle.definitions.specs.Sheets.{Labels, same, among, twice, equal_word, sheet_number, sheet_labels, label_of}
 use Rattle.definitions.specs.Pages.{blanks, filled}
-use Rattle.theory.specs.Tests.{below_or, zero_is_not-one}
+use Rattle.theory.specs.Tests.{below_or, zero_is_not_one}
 use Rattle.page_theory.specs.Widths.{length-filled}
 use Rattle.label_theory.specs.Labels.{GoodLabel}
 use Rattle.label_theory.specs.SheetLaws.{entry_of, sheet_of, LabelsRead, labels_read}
@@ -123,7 +123,7 @@ pub record FilledSoFar (sheet : List ℕ) (x : Labels) (array : List ℕ) (place
 pub fill_start : (sheet array : List ℕ) (t : Tested sheet) → length array ≡ array_length → FilledSoFar sheet t.0 array 0 0
 fill_start sheet array t h = record {
   most = omega arith;
-  has = record { long = h; names = λ i k. absurd (zero_is_not-one (omega arith)); lengths = λ i k. absurd (zero_is_not-one (omega arith)) };
+  has = record { long = h; names = λ i k. absurd (zero_is_not_one (omega arith)); lengths = λ i k. absurd (zero_is_not_one (omega arith)) };
   others = (labels_read most_controls sheet t.0 t.1).form;
   inside = omega arith;
 }

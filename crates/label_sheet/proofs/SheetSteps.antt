@@ -14,7 +14,7 @@ use Rattle.definitions.specs.Groups.{Numeral}
 use Rattle.definitions.specs.Files.{tail_word}
 use Rattle.definitions.specs.Sheets.{between, alphanumeric, label_length_word, label_byte_word, Label, byte_in_front, read_bytes, read_label}
 use Rattle.definitions.specs.Sheets.{Labels, label_in_front, read_labels, equal_word, sheet_end, read_sheet, sheet_number}
-use Rattle.theory.specs.Tests.{zero_is_not-one}
+use Rattle.theory.specs.Tests.{zero_is_not_one}
 use Rattle.label_theory.specs.SheetLaws.{worded_labels}
 use Rattle.number_groups.specs.NumberAnswers.{outcome_of, ReadsAt, read_as}
 use Rattle.number_groups.specs.declared.NumberAnswer.TheVariants as number
@@ -154,7 +154,7 @@ number_in_front l (refused k) = refl
 module _ (k : ℕ) (bytes : List ℕ) where
   front_stops : (o : Outcome Label) (w : ℕ) → read_label bytes ≡ o → and_then o to_rest ≡ refused w → labels_number (suc k) bytes ≡ w
   unfolding read_labels
-  front_stops (accepted x) w e f = absurd (zero_is_not-one (cc))
+  front_stops (accepted x) w e f = absurd (zero_is_not_one (cc))
   front_stops (refused v) w e f = let same : v ≡ w = cc in rw e same
 
   front_goes_on : (o : Outcome Label) (rest : List ℕ) → read_label bytes ≡ o → and_then o to_rest ≡ accepted rest → labels_number (suc k) bytes ≡ labels_number k rest
@@ -162,7 +162,7 @@ module _ (k : ℕ) (bytes : List ℕ) where
   front_goes_on (accepted x) rest e f =
       let same : x.rest ≡ rest = cc in
       rw e (number_in_front x.label (read_labels k x.rest) ∙ ap (labels_number k) same)
-  front_goes_on (refused v) rest e f = absurd (zero_is_not-one (cc))
+  front_goes_on (refused v) rest e f = absurd (zero_is_not_one (cc))
 
 module _ (sheet : List ℕ) (place left : ℕ) (some : 0 < left) (r : PlaceAnswer) (answer : place_outcome sheet r ≡ label_rest (drop place sheet)) where
   last : labels_number left (drop place sheet) ≡ labels_number (suc (left - 1)) (drop place sheet)

@@ -13,7 +13,7 @@ use Rattle.definitions.specs.Limits.{most_controls, longest_label}
 use Rattle.definitions.specs.Sums.{tabulate, at}
 use Rattle.definitions.specs.Sheets.{alphanumeric, same, label_of}
 use Rattle.definitions.specs.Pages.{blanks, filled}
-use Rattle.theory.specs.Tests.{below_or, zero_is_not-one}
+use Rattle.theory.specs.Tests.{below_or, zero_is_not_one}
 use Rattle.theory.specs.Lists.{length-tabulate, at-tabulate}
 use Rattle.page_theory.specs.Widths.{length-filled}
 use Rattle.label_theory.specs.Labels.{AllAlphanumeric, GoodLabel, same_self, same_is}
@@ -49,7 +49,7 @@ large_byte b h =
 good_byte : (b : ℕ) → alphanumeric b ≡ true → b < 256
 good_byte b e = ⊎_elim
     (λ (l : b < 123). omega arith)
-    (λ (l : 123 ≤ b). absurd (let f : false ≡ true = sym (large_byte b l) ∙ e in zero_is_not-one (cc)))
+    (λ (l : 123 ≤ b). absurd (let f : false ≡ true = sym (large_byte b l) ∙ e in zero_is_not_one (cc)))
     (below_or b 123)
 
 pub bytes_length : (k v : ℕ) → length (bytes_of k v) ≡ k
@@ -90,7 +90,7 @@ label_at array i h =
     ∙ ap (label_in array) (at-tabulate most_controls (λ j. j) i h)
   where
     within : (l : List ℕ) (i : ℕ) → i < length l → get_or (map (label_in array) l) i [] ≡ label_in array (get_or l i 0)
-    within [] i h = absurd (zero_is_not-one (omega arith))
+    within [] i h = absurd (zero_is_not_one (omega arith))
     within (x ∷ l) zero h = refl
     within (x ∷ l) (suc i) h = within l i (omega arith)
 

@@ -14,7 +14,7 @@ use Rattle.std.proofs.Math.Decide.{ℕ_discrete}
 use Rattle.definitions.specs.Limits.{most_controls, longest_label}
 use Rattle.definitions.specs.Sums.{tabulate, keep}
 use Rattle.definitions.specs.Sheets.{alphanumeric, same, among, twice, label_of}
-use Rattle.theory.specs.Tests.{below_or, and_true_left, and_true_right, zero_is_not-one}
+use Rattle.theory.specs.Tests.{below_or, and_true_left, and_true_right, zero_is_not_one}
 use Rattle.page_theory.specs.Codes.{keep_snoc}
 
 -- ---- what a label is
@@ -43,8 +43,8 @@ same_self (x ∷ l) = rw (eq-eqb x x refl, same_self l)
 pub same_is : (k l : List ℕ) → same k l ≡ true → k ≡ l
 unfolding same
 same_is [] [] e = refl
-same_is [] (y ∷ l) e = absurd (zero_is_not-one (cc))
-same_is (x ∷ k) [] e = absurd (zero_is_not-one (cc))
+same_is [] (y ∷ l) e = absurd (zero_is_not_one (cc))
+same_is (x ∷ k) [] e = absurd (zero_is_not_one (cc))
 same_is (x ∷ k) (y ∷ l) e =
     ap₂ (λ (z : ℕ) (t : List ℕ). z ∷ t) (eqb-true x y (and_true_left (eqb x y) (same k l) e)) (same_is k l (and_true_right (eqb x y) (same k l) e))
 
@@ -61,23 +61,23 @@ or_false_left true b e = e
 
 or_false_right : (a b : Bool) → (a || b) ≡ false → b ≡ false
 or_false_right false b e = e
-or_false_right true b e = absurd (zero_is_not-one (cc))
+or_false_right true b e = absurd (zero_is_not_one (cc))
 
 among-at : (l : List ℕ) (ls : List (List ℕ)) (j : ℕ) → j < length ls → among l ls ≡ false → same l (label_of ls j) ≡ false
 unfolding among
-among-at l [] j h e = absurd (zero_is_not-one (omega arith))
+among-at l [] j h e = absurd (zero_is_not_one (omega arith))
 among-at l (x ∷ ls) zero h e = or_false_left (same l x) (among l ls) e
 among-at l (x ∷ ls) (suc j) h e = among-at l ls j (omega arith) (or_false_right (same l x) (among l ls) e)
 
 -- no label stands again behind itself exactly if any two differ
 pub once_differ : (ls : List (List ℕ)) → twice ls ≡ false → (i j : ℕ) → i < j → j < length ls → label_of ls i ≡ label_of ls j → ⊥
 unfolding twice
-once_differ [] e i j h l f = zero_is_not-one (omega arith)
-once_differ (x ∷ ls) e i zero h l f = zero_is_not-one (omega arith)
+once_differ [] e i j h l f = zero_is_not_one (omega arith)
+once_differ (x ∷ ls) e i zero h l f = zero_is_not_one (omega arith)
 once_differ (x ∷ ls) e zero (suc j) h l f =
     let no : same x (label_of ls j) ≡ false = among-at x ls j (omega arith) (or_false_left (among x ls) (twice ls) e) in
     let yes : same x (label_of ls j) ≡ true = ap (same x) (sym f) ∙ same_self x in
-    zero_is_not-one (cc)
+    zero_is_not_one (cc)
 once_differ (x ∷ ls) e (suc i) (suc j) h l f = once_differ ls (or_false_right (among x ls) (twice ls) e) i j (omega arith) (omega arith) f
 
 not-among : (l : List ℕ) (ls : List (List ℕ)) → ((j : ℕ) → j < length ls → l ≡ label_of ls j → ⊥) → among l ls ≡ false

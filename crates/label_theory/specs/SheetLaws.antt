@@ -14,7 +14,7 @@ use Rattle.definitions.specs.Groups.{Numeral, in_front, read_number}
 use Rattle.definitions.specs.Files.{tail_word}
 use Rattle.definitions.specs.Sheets.{between, alphanumeric, label_length_word, label_byte_word, Label, byte_in_front, read_bytes, read_label}
 use Rattle.definitions.specs.Sheets.{Labels, label_in_front, read_labels, twice, equal_word, sheet_end, read_sheet, sheet_number, sheet_labels, label_of}
-use Rattle.theory.specs.Tests.{below_or, and_true_left, and_true_right, zero_is_not-one}
+use Rattle.theory.specs.Tests.{below_or, and_true_left, and_true_right, zero_is_not_one}
 use Rattle.checks.specs.Words.{no_word}
 use Rattle.number_groups.specs.Numbers.{reads_none, reads_last, reads_more, reads_word}
 use Rattle.table_header.specs.Words.{passed, passed_test}
@@ -39,7 +39,7 @@ unfolding read_bytes
 bytes_read zero bytes x e =
     let same : record { label = []; rest = bytes } ≡ x = cc in
     subst (BytesRead zero bytes) same (record { form = refl; as_long = refl; all = tt })
-bytes_read (suc k) [] x e = absurd (zero_is_not-one (cc))
+bytes_read (suc k) [] x e = absurd (zero_is_not_one (cc))
 bytes_read (suc k) (b ∷ bs) x e =
     let tested = passed_test (label_byte_word b) (and_then (read_bytes k bs) (byte_in_front b)) x e in
     let good : alphanumeric b ≡ true = not-false (alphanumeric b) (no_word (not (alphanumeric b)) 17 (λ z. omega arith) tested.none) in
@@ -63,12 +63,12 @@ more_large b bs x l e =
     omega (arith, ap (λ (z : Numeral). z.value) same)
 
 small_number : (bytes : List ℕ) (x : Numeral) → read_number bytes ≡ accepted x → x.value < 128 → bytes ≡ x.value ∷ x.rest
-small_number [] x e h = let f = sym reads_none ∙ e in absurd (zero_is_not-one (cc))
+small_number [] x e h = let f = sym reads_none ∙ e in absurd (zero_is_not_one (cc))
 small_number (b ∷ bs) x e h = ⊎_elim
     (λ (l : b < 128).
     let same : record { value = b; rest = bs } ≡ x = let f = sym (reads_last b bs l) ∙ e in cc in
     ap (λ (z : Numeral). z.value ∷ z.rest) same)
-    (λ (l : 128 ≤ b). absurd (zero_is_not-one (omega (arith, more_large b bs x l e))))
+    (λ (l : 128 ≤ b). absurd (zero_is_not_one (omega (arith, more_large b bs x l e))))
     (below_or b 128)
 
 -- ---- a label
@@ -123,7 +123,7 @@ labels_none : (bytes : List ℕ) (x : Labels) → read_labels zero bytes ≡ acc
 unfolding read_labels sheet_of flat_map
 labels_none bytes x e =
     let same : record { labels = []; rest = bytes } ≡ x = cc in
-    subst (LabelsRead zero bytes) same (record { form = refl; count = refl; each = λ i h. absurd (zero_is_not-one (omega arith)) })
+    subst (LabelsRead zero bytes) same (record { form = refl; count = refl; each = λ i h. absurd (zero_is_not_one (omega arith)) })
 
 labels_more : (k : ℕ) (bytes : List ℕ) (y : Label) (z : Labels) → LabelRead bytes y → LabelsRead k y.rest z →
     LabelsRead (suc k) bytes (record { labels = y.label ∷ z.labels; rest = z.rest })
@@ -153,7 +153,7 @@ pub record SheetRead (bytes : List ℕ) (ls : List (List ℕ)) : Type 0 where
 
 no_bytes : (rest : List ℕ) → length rest ≡ 0 → rest ≡ []
 no_bytes [] e = refl
-no_bytes (x ∷ rest) e = absurd (zero_is_not-one (omega arith))
+no_bytes (x ∷ rest) e = absurd (zero_is_not_one (omega arith))
 
 no_tail : (rest : List ℕ) → tail_word rest ≡ 0 → rest ≡ []
 no_tail rest t =
@@ -220,7 +220,7 @@ abbrev pub Worded : {X : Type 0} → Outcome X → Type 0
 Worded o = (k : ℕ) → o ≡ refused k → 0 < k
 
 worded_accepted : {X : Type 0} (x : X) → Worded (accepted x)
-worded_accepted x k e = absurd (zero_is_not-one (cc))
+worded_accepted x k e = absurd (zero_is_not_one (cc))
 
 worded_then : {X Y : Type 0} (o : Outcome X) (next : X → Outcome Y) → Worded o → ((x : X) → Worded (next x)) → Worded (and_then o next)
 worded_then (accepted x) next h g k e = g x k e

@@ -12,7 +12,7 @@ use Rattle.definitions.specs.Sums.{tabulate, keep}
 use Rattle.definitions.specs.Sets.{size}
 use Rattle.definitions.specs.Sheets.{alphanumeric}
 use Rattle.definitions.specs.Pages.{blanks, filled, behind_column, Layout, line_of, has, controls_of, joined}
-use Rattle.theory.specs.Tests.{zero_is_not-one}
+use Rattle.theory.specs.Tests.{zero_is_not_one}
 use Rattle.page_theory.specs.Codes.{keep_snoc}
 use Rattle.page_theory.specs.Widths.{length-filled}
 use Rattle.label_theory.specs.Labels.{AllAlphanumeric}
@@ -51,7 +51,7 @@ AllFree b [] = Unit {0}
 AllFree b (l ∷ ls) = Free b l × AllFree b ls
 
 pub good_not : (b x : ℕ) → alphanumeric b ≡ false → alphanumeric x ≡ true → x ≡ b → ⊥
-good_not b x f t e = let g : false ≡ true = sym f ∙ ap alphanumeric (sym e) ∙ t in zero_is_not-one (cc)
+good_not b x f t e = let g : false ≡ true = sym f ∙ ap alphanumeric (sym e) ∙ t in zero_is_not_one (cc)
 
 pub good_free : (b : ℕ) (l : List ℕ) → alphanumeric b ≡ false → AllAlphanumeric l → Free b l
 good_free b [] f h = tt
@@ -103,8 +103,8 @@ word_column y S v w h f =
 -- ---- codes by their controls
 
 append-some : (xs : List ℕ) (x : ℕ) → xs ++ (x ∷ []) ≡ [] → ⊥
-append-some [] x e = zero_is_not-one (cc)
-append-some (y ∷ xs) x e = zero_is_not-one (cc)
+append-some [] x e = zero_is_not_one (cc)
+append-some (y ∷ xs) x e = zero_is_not_one (cc)
 
 some_kept : (S n : ℕ) → S < 2 ^ n → (S ≡ 0 → ⊥) → keep (has S) (tabulate n (λ i. i)) ≡ [] → ⊥
 unfolding tabulate
@@ -137,7 +137,7 @@ bit_same : (x y : ℕ) → eqb (x % 2) 1 ≡ eqb (y % 2) 1 → x % 2 ≡ y % 2
 bit_same x y e = elim (ℕ_discrete (y % 2) 1) [
   | yes o ↦ eqb-true (x % 2) 1 (e ∙ eq-eqb (y % 2) 1 o) ∙ sym o
   | no z ↦ elim (ℕ_discrete (x % 2) 1) [
-    | yes o ↦ absurd (let f : true ≡ false = sym (eq-eqb (x % 2) 1 o) ∙ e ∙ ne_eqb (y % 2) 1 z in zero_is_not-one (cc))
+    | yes o ↦ absurd (let f : true ≡ false = sym (eq-eqb (x % 2) 1 o) ∙ e ∙ ne_eqb (y % 2) 1 z in zero_is_not_one (cc))
     | no w ↦ omega arith
   ]
 ]

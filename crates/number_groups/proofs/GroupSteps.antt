@@ -14,7 +14,7 @@ use borrow.Author.Tests.{lt-ltb, le-ltb, ltb-true, ltb-false}
 use Rattle.definitions.specs.Outcomes.{Outcome, accepted, refused, and_then, unless}
 use Rattle.definitions.specs.Refusals.{word_if}
 use Rattle.definitions.specs.Groups.{Numeral, in_front, read_number}
-use Rattle.theory.specs.Tests.{zero_is_not-one, below_or}
+use Rattle.theory.specs.Tests.{zero_is_not_one, below_or}
 use Rattle.number_groups.specs.Numbers.{reads_none, reads_last, reads_more, reads_word}
 use Rattle.number_groups.specs.NumberAnswers.{IsGroup, placed, outcome_of, next_of, in_front_of, ending_in, fifth_group, ReadsAt, ReadsBehind, cut_to32}
 use Rattle.number_groups.specs.declared.Group.{Group}
@@ -198,7 +198,7 @@ module _ (bytes : List ℕ) (at : ℕ) where
 -- ---- a number that stands there, read again
 
 not_there : {X : Type 0} {P : Type 0} {k : ℕ} {o : Outcome X} {x : X} → o ≡ refused k → o ≡ accepted x → P
-not_there e f = absurd (zero_is_not-one (let g = sym e ∙ f in cc))
+not_there e f = absurd (zero_is_not_one (let g = sym e ∙ f in cc))
 
 pub first_there : (bytes : List ℕ) (at : ℕ) {x : Numeral} → read_number (drop at bytes) ≡ accepted x → at < length bytes
 first_there bytes at stands = ⊎_elim
@@ -239,8 +239,8 @@ module _ {bytes : List ℕ} {x : Numeral} {low scale at : ℕ} (rest : Rest byte
     last_by true true h e =
         let whole : (low + scale * g.byte) % 2 ^ 32 ≡ low + scale * g.byte = mod-eq_of_lt (ltb-true _ _ h) in
         rw whole (let same : record { value = low + scale * g.byte; rest = drop g.next bytes } ≡ x = cc in same)
-    last_by true false h e = absurd (zero_is_not-one (cc))
-    last_by false small h e = absurd (zero_is_not-one (cc))
+    last_by true false h e = absurd (zero_is_not_one (cc))
+    last_by false small h e = absurd (zero_is_not_one (cc))
 
     pub last_there : g.byte < 128 → placed bytes (cut_to32 (low + scale * g.byte) g.next) ≡ x
     last_there h = last_by (ltb 0 g.byte) (ltb (low + scale * g.byte) (2 ^ 32)) refl (sym (ends_as low scale bytes at there group h) ∙ rest.stands)

@@ -9,7 +9,7 @@ use Rattle.definitions.specs.Outcomes.{Outcome, accepted, refused, and_then, unl
 use Rattle.definitions.specs.Refusals.{word_if}
 use Rattle.definitions.specs.Groups.{Numeral, groups, groups_in, in_front, read_number}
 use Rattle.definitions.specs.Partitions.{all_below}
-use Rattle.theory.specs.Tests.{below_or, and_true_left, and_true_right, zero_is_not-one}
+use Rattle.theory.specs.Tests.{below_or, and_true_left, and_true_right, zero_is_not_one}
 
 -- ---- writing
 
@@ -73,13 +73,13 @@ word_by g (refused j) w k e = let f : j ≡ k = cc in sym f ∙ w j refl
 word_by g (accepted x) w k e = tested (ltb 0 x.value && ltb (g + 128 * x.value) (2 ^ 32)) (record { value = g + 128 * x.value; rest = x.rest }) k e
   where
     tested : (t : Bool) (y : Numeral) (k : ℕ) → unless (word_if (not t) 8) (accepted y) ≡ refused k → k ≡ 8
-    tested true y k e = absurd (zero_is_not-one (cc))
+    tested true y k e = absurd (zero_is_not_one (cc))
     tested false y k e = cc
 
 pub reads_word : (bs : List ℕ) (k : ℕ) → read_number bs ≡ refused k → k ≡ 8
 reads_word [] k e = let f = sym reads_none ∙ e in cc
 reads_word (b ∷ bs) k e = ⊎_elim
-    (λ (l : b < 128). let f = sym (reads_last b bs l) ∙ e in absurd (zero_is_not-one (cc)))
+    (λ (l : b < 128). let f = sym (reads_last b bs l) ∙ e in absurd (zero_is_not_one (cc)))
     (λ (l : 128 ≤ b). word_by (b - 128) (read_number bs) (reads_word bs) k (sym (reads_more b bs l) ∙ e))
     (below_or b 128)
 
@@ -118,8 +118,8 @@ longer_form : (b : ℕ) (bs : List ℕ) (y x : Numeral) (some small : Bool) → 
     ltb 0 y.value ≡ some → ltb (b - 128 + 128 * y.value) (2 ^ 32) ≡ small →
     unless (word_if (not (some && small)) 8) (accepted (record { value = b - 128 + 128 * y.value; rest = y.rest })) ≡ accepted x →
     Written (b ∷ bs) x
-longer_form b bs y x false small l h w p q e = absurd (zero_is_not-one (cc))
-longer_form b bs y x true false l h w p q e = absurd (zero_is_not-one (cc))
+longer_form b bs y x false small l h w p q e = absurd (zero_is_not_one (cc))
+longer_form b bs y x true false l h w p q e = absurd (zero_is_not_one (cc))
 longer_form b bs y x true true l h w p q e =
     let v = b - 128 + 128 * y.value in
     let pos : 0 < y.value = ltb-true 0 y.value p in
@@ -132,13 +132,13 @@ longer_form b bs y x true true l h w p q e =
 
 written_by : (b : ℕ) (bs : List ℕ) (o : Outcome Numeral) (x : Numeral) → 128 ≤ b → b < 256 →
     ((y : Numeral) → o ≡ accepted y → Written bs y) → and_then o (in_front (b - 128)) ≡ accepted x → Written (b ∷ bs) x
-written_by b bs (refused k) x l h w e = absurd (zero_is_not-one (cc))
+written_by b bs (refused k) x l h w e = absurd (zero_is_not_one (cc))
 written_by b bs (accepted y) x l h w e = longer_form b bs y x _ _ l h (w y refl) refl refl e
 
 -- what reads is what is written
 pub reads_written : (bs : List ℕ) (x : Numeral) → all_below 256 bs ≡ true → read_number bs ≡ accepted x → Written bs x
 unfolding all_below
-reads_written [] x h e = let f = sym reads_none ∙ e in absurd (zero_is_not-one (cc))
+reads_written [] x h e = let f = sym reads_none ∙ e in absurd (zero_is_not_one (cc))
 reads_written (b ∷ bs) x h e = ⊎_elim
     (λ (l : b < 128).
     let same : record { value = b; rest = bs } ≡ x = let f = sym (reads_last b bs l) ∙ e in cc in

@@ -6,7 +6,7 @@ use mathlib.Core.List.{List, [], ◌∷◌, ◌++◌, flat_map}
 use Rattle.definitions.specs.Limits.{most_controls}
 use Rattle.definitions.specs.Sums.{at}
 use Rattle.definitions.specs.Sets.{size}
-use Rattle.theory.specs.Tests.{zero_is_not-one}
+use Rattle.theory.specs.Tests.{zero_is_not_one}
 use Rattle.text_pieces.specs.Text.{Writes}
 use Rattle.text_pieces.specs.TextLaws.{writes_append, writes_none, writes_same, writes_length, flat_map_one}
 use Rattle.definitions.specs.Pages.{filled, Layout, behind_column, line_of, heading, nonzero_codes, pages_for, page_count, on_page, lines_of, page_text, pages_text}
@@ -35,8 +35,8 @@ record Next (l : List ℕ) (k x : ℕ) (xs : List ℕ) : Type 0 where
   inside : k < length l
 
 next : (l : List ℕ) (k x : ℕ) (xs : List ℕ) → drop k l ≡ x ∷ xs → Next l k x xs
-next [] zero x xs e = absurd (zero_is_not-one (cc))
-next [] (suc k) x xs e = absurd (zero_is_not-one (cc))
+next [] zero x xs e = absurd (zero_is_not_one (cc))
+next [] (suc k) x xs e = absurd (zero_is_not_one (cc))
 next (a ∷ l) zero x xs e = record {
   taken = let f : a ≡ x = cc in ap (λ (b : ℕ). b ∷ []) f;
   left = cc;

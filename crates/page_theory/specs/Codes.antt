@@ -9,7 +9,7 @@ use Rattle.std.proofs.Math.ListN.{get_or-append, get_or-eq_default}
 use Rattle.std.proofs.lemmas.List.{get_or_at}
 use borrow.Author.Tests.{eq-eqb, ne_eqb}
 use Rattle.definitions.specs.Sums.{sum, list_sum, tabulate, keep, at}
-use Rattle.theory.specs.Tests.{below_or, zero_is_not-one}
+use Rattle.theory.specs.Tests.{below_or, zero_is_not_one}
 use Rattle.theory.specs.Sums.{sum_only, sum_zero, list_sum-keep, list_sum-tabulate}
 use Rattle.theory.specs.Lists.{length-tabulate, at-tabulate}
 use Rattle.definitions.specs.Pages.{nonzero_codes}
@@ -92,7 +92,7 @@ module _ (n : ℕ) (l : List ℕ) (r : Rises n l) where
 
 pub kept_rises : (p : ℕ → Bool) (n : ℕ) → Rises n (keep p (tabulate n (λ i. i)))
 unfolding tabulate keep
-kept_rises p zero = record { below = λ i h. absurd (zero_is_not-one (omega arith)); rises = λ i j h g. absurd (zero_is_not-one (omega arith)) }
+kept_rises p zero = record { below = λ i h. absurd (zero_is_not_one (omega arith)); rises = λ i j h g. absurd (zero_is_not_one (omega arith)) }
 kept_rises p (suc n) = rw (keep_snoc p (tabulate n (λ i. i)) n) (one_more n (keep p (tabulate n (λ i. i))) (kept_rises p n) (p n))
 
 pub codes_rise : (A : List ℕ) → Rises (length A) (nonzero_codes A)
@@ -126,13 +126,13 @@ codes_none A h = keep_none (nonzero A) (tabulate (length A) (λ i. i)) (λ S. rw
 none_in : (S : ℕ) (xs : List ℕ) → length xs ≡ 0 → times S xs ≡ 0
 unfolding times list_sum
 none_in S [] h = refl
-none_in S (x ∷ xs) h = absurd (zero_is_not-one (omega arith))
+none_in S (x ∷ xs) h = absurd (zero_is_not_one (omega arith))
 
 pub codes_some : (A : List ℕ) (S : ℕ) → at A S ≢ 0 → 0 < length (nonzero_codes A)
 codes_some A S d = ⊎_elim
     (λ (l : length (nonzero_codes A) < 1).
     let one : times S (nonzero_codes A) ≡ 1 = codes_once A S ∙ rw (ne_eqb (at A S) 0 d) in
-    absurd (zero_is_not-one (sym (none_in S (nonzero_codes A) (omega arith)) ∙ one)))
+    absurd (zero_is_not_one (sym (none_in S (nonzero_codes A) (omega arith)) ∙ one)))
     (λ (l : 1 ≤ length (nonzero_codes A)). l)
     (below_or (length (nonzero_codes A)) 1)
 

@@ -1,6 +1,6 @@
 -- The product of two polynomials, by their coefficients.
 --   conv                              the coefficient at the rank k
---   conv-add_left, conv-add_right     it is bilinear
+--   conv_add_left, conv_add_right     it is bilinear
 --   conv_window                       of factors of degree d at most: the terms that count
 --   conv_past, conv_lowest            above both degrees, and where both factors start
 use Rattle.std.specs.Prelude.{◌≡◌, ◌⊎◌}
@@ -17,14 +17,14 @@ use Rattle.theory.specs.Sums.{sum_ext, sum-plus, sum_zero, sum_split}
 unfoldable pub conv : (ℕ → ℕ) → (ℕ → ℕ) → ℕ → ℕ
 conv a b k = sum (suc k) (λ l. a l * b (k - l))
 
-pub conv-add_left : (a a' b : ℕ → ℕ) (k : ℕ) → conv (λ l. a l + a' l) b k ≡ conv a b k + conv a' b k
+pub conv_add_left : (a a' b : ℕ → ℕ) (k : ℕ) → conv (λ l. a l + a' l) b k ≡ conv a b k + conv a' b k
 unfolding conv
-conv-add_left a a' b k =
+conv_add_left a a' b k =
     sum_ext (suc k) _ _ (λ i l. add-mul (a i) (a' i) (b (k - i))) ∙ sum-plus (suc k) (λ l. a l * b (k - l)) (λ l. a' l * b (k - l))
 
-pub conv-add_right : (a b b' : ℕ → ℕ) (k : ℕ) → conv a (λ l. b l + b' l) k ≡ conv a b k + conv a b' k
+pub conv_add_right : (a b b' : ℕ → ℕ) (k : ℕ) → conv a (λ l. b l + b' l) k ≡ conv a b k + conv a b' k
 unfolding conv
-conv-add_right a b b' k =
+conv_add_right a b b' k =
     sum_ext (suc k) _ _ (λ i l. mul-add (a i) (b (k - i)) (b' (k - i))) ∙ sum-plus (suc k) (λ l. a l * b (k - l)) (λ l. a l * b' (k - l))
 
 -- a product with a factor 0

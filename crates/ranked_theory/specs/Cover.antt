@@ -11,7 +11,7 @@ use Rattle.std.proofs.Math.Arith.{lt-one}
 use Rattle.std.specs.Int.Count.{ones}
 use Rattle.definitions.specs.Sets.{size}
 use Rattle.theory.specs.Codes.{by_top, size_top}
-use Rattle.ranked_theory.specs.Convolution.{conv, conv-add_left, conv-add_right, conv_past, conv_before}
+use Rattle.ranked_theory.specs.Convolution.{conv, conv_add_left, conv_add_right, conv_past, conv_before}
 
 -- the upper half of a function of codes below 2 ^ (p + 1)
 abbrev pub hi : ℕ → (ℕ → ℕ → ℕ) → ℕ → ℕ → ℕ
@@ -45,32 +45,32 @@ cond-add false x x₁ x₂ y y₁ y₂ p q = q
 three : (a b c a₁ b₁ c₁ a₂ b₂ c₂ : ℕ) → a ≡ a₁ + a₂ → b ≡ b₁ + b₂ → c ≡ c₁ + c₂ → a + (b + c) ≡ a₁ + (b₁ + c₁) + (a₂ + (b₂ + c₂))
 three a b c a₁ b₁ c₁ a₂ b₂ c₂ p q r = omega arith
 
-pub cover-add_left : (p : ℕ) (f f' g : ℕ → ℕ → ℕ) (u k : ℕ) → cover p (λ v j. f v j + f' v j) g u k ≡ cover p f g u k + cover p f' g u k
+pub cover_add_left : (p : ℕ) (f f' g : ℕ → ℕ → ℕ) (u k : ℕ) → cover p (λ v j. f v j + f' v j) g u k ≡ cover p f g u k + cover p f' g u k
 unfolding cover
-cover-add_left zero f f' g u k = conv-add_left (f u) (f' u) (g u) k
-cover-add_left (suc p) f f' g u k =
+cover_add_left zero f f' g u k = conv_add_left (f u) (f' u) (g u) k
+cover_add_left (suc p) f f' g u k =
     let v = u - 2 ^ p in
-    let a = cover-add_left p (hi p f) (hi p f') g v k in
-    let b = cover-add_left p f f' (hi p g) v k in
-    let c = cover-add_left p (hi p f) (hi p f') (hi p g) v k in
-    cond-add (ltb u (2 ^ p)) _ _ _ _ _ _ (cover-add_left p f f' g u k) (three _ _ _ _ _ _ _ _ _ a b c)
+    let a = cover_add_left p (hi p f) (hi p f') g v k in
+    let b = cover_add_left p f f' (hi p g) v k in
+    let c = cover_add_left p (hi p f) (hi p f') (hi p g) v k in
+    cond-add (ltb u (2 ^ p)) _ _ _ _ _ _ (cover_add_left p f f' g u k) (three _ _ _ _ _ _ _ _ _ a b c)
 
-pub cover-add_right : (p : ℕ) (f g g' : ℕ → ℕ → ℕ) (u k : ℕ) → cover p f (λ v j. g v j + g' v j) u k ≡ cover p f g u k + cover p f g' u k
+pub cover_add_right : (p : ℕ) (f g g' : ℕ → ℕ → ℕ) (u k : ℕ) → cover p f (λ v j. g v j + g' v j) u k ≡ cover p f g u k + cover p f g' u k
 unfolding cover
-cover-add_right zero f g g' u k = conv-add_right (f u) (g u) (g' u) k
-cover-add_right (suc p) f g g' u k =
+cover_add_right zero f g g' u k = conv_add_right (f u) (g u) (g' u) k
+cover_add_right (suc p) f g g' u k =
     let v = u - 2 ^ p in
-    let a = cover-add_right p (hi p f) g g' v k in
-    let b = cover-add_right p f (hi p g) (hi p g') v k in
-    let c = cover-add_right p (hi p f) (hi p g) (hi p g') v k in
-    cond-add (ltb u (2 ^ p)) _ _ _ _ _ _ (cover-add_right p f g g' u k) (three _ _ _ _ _ _ _ _ _ a b c)
+    let a = cover_add_right p (hi p f) g g' v k in
+    let b = cover_add_right p f (hi p g) (hi p g') v k in
+    let c = cover_add_right p (hi p f) (hi p g) (hi p g') v k in
+    cond-add (ltb u (2 ^ p)) _ _ _ _ _ _ (cover_add_right p f g g' u k) (three _ _ _ _ _ _ _ _ _ a b c)
 
 -- what the upper half holds before the subtraction: the lower half's value, and what is wanted
 pub cover-both : (p : ℕ) (f g : ℕ → ℕ → ℕ) (u k : ℕ) → cover p (both p f) (both p g) u k ≡ cover p f g u k + cover (suc p) f g (2 ^ p + u) k
 cover-both p f g u k =
-    let a = cover-add_left p f (hi p f) (both p g) u k in
-    let b = cover-add_right p f g (hi p g) u k in
-    let c = cover-add_right p (hi p f) g (hi p g) u k in
+    let a = cover_add_left p f (hi p f) (both p g) u k in
+    let b = cover_add_right p f g (hi p g) u k in
+    let c = cover_add_right p (hi p f) g (hi p g) u k in
     let d = cover-high p f g u k in
     omega arith
 

@@ -85,9 +85,9 @@ module _ (line : List ℕ) (at : ℕ) (nothing : opening_of (drop at line) ≡ n
 -- ---- the closing parenthesis
 
 module _ (line : List ℕ) (at : ℕ) where
-  pub not-closed_end : length line ≤ at → begins (closing_byte ∷ []) (drop at line) ≡ false
+  pub not_closed_end : length line ≤ at → begins (closing_byte ∷ []) (drop at line) ≡ false
   unfolding begins
-  not-closed_end h = rw (drop_of_length-le line {i = at} h)
+  not_closed_end h = rw (drop_of_length-le line {i = at} h)
 
   pub not-closed : at < length line → (get_or line at 0 ≡ closing_byte → ⊥) → begins (closing_byte ∷ []) (drop at line) ≡ false
   unfolding begins

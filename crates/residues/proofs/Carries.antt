@@ -1,7 +1,7 @@
 -- Carries: what a sum in two words leaves modulo m, and that the last carry fits.
 use Rattle.std.proofs.Common.{◌≡◌, ℕ, ◌+◌, ◌-◌, ◌*◌, ◌%◌, ◌^◌, ◌<◌, ◌≤◌, sym, refl, ap, ◌∙◌, ap₂, mod-lt, mul_comm, mul-le-mul, one-mul, zero-mul, arith}
 use native.Mathlib.Nat.{mod-add-mod}
-use Rattle.theory.specs.Remainders.{mod-add, mul-mod_l}
+use Rattle.theory.specs.Remainders.{mod-add, mul_mod_l}
 use Rattle.residues.specs.Moduli.{Valid}
 use Rattle.residues.specs.Accumulated.{Summed}
 use Rattle.residues.specs.declared.Modulus.{Modulus}
@@ -14,7 +14,7 @@ two_64 m = mod-add-mod (2 ^ 64 - 1) m 1
 -- each carry counts as the residue of 2 ^ 64
 carried : (m x k : ℕ) → (x + k * (2 ^ 64 % m)) % m ≡ (x + 2 ^ 64 * k) % m
 carried m x k =
-    mod-add m x (k * (2 ^ 64 % m)) x (2 ^ 64 * k) refl (ap (λ (y : ℕ). y % m) (mul_comm k (2 ^ 64 % m)) ∙ sym (mul-mod_l m (2 ^ 64) k))
+    mod-add m x (k * (2 ^ 64 % m)) x (2 ^ 64 * k) refl (ap (λ (y : ℕ). y % m) (mul_comm k (2 ^ 64 % m)) ∙ sym (mul_mod_l m (2 ^ 64) k))
 
 -- the carries of a sum, each as the residue of 2 ^ 64, are added to its lowest 64 bits
 module _ (modulus : Modulus) (valid : Valid modulus) where

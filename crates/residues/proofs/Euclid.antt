@@ -1,7 +1,7 @@
 -- Euclid's algorithm for m and a: what the pair of remainders keeps, from the first pair to the last.
 use Rattle.std.proofs.Common.{◌≡◌, ℕ, ◌/◌, ◌%◌, ◌<◌, ap, ◌∙◌, subst, mod-lt, mod-eq_of_lt, arith}
 use native.Mathlib.Nat.{mod-mod, div-lt_self}
-use Rattle.theory.specs.Tests.{zero_is_not-one}
+use Rattle.theory.specs.Tests.{zero_is_not_one}
 use Rattle.theory.specs.Divisors.{Euclid, euclid_first, euclid_next, euclid_last}
 use Rattle.residues.specs.Moduli.{Below}
 use Rattle.residues.specs.Reciprocals.{IsReciprocal, IsCommonDivisor, ReciprocalIs, InRange, Next}
@@ -56,7 +56,7 @@ is_reciprocal {m} {a} {pair} b e =
     } in
     record {
       reciprocal = λ u q. subst (IsReciprocal m a) (cc) it;
-      common = λ d q. absurd (zero_is_not-one (cc));
+      common = λ d q. absurd (zero_is_not_one (cc));
     }
 
 pub is_common : {m a : ℕ} {pair : Remainders} → Bezout m a pair → pair.smaller ≡ 0 →
@@ -66,6 +66,6 @@ is_common {m} {a} {pair} b e =
     let both = euclid_last b.euclid e in
     let it : IsCommonDivisor m a d = record { above = b.above; of_modulus = both.0; of_number = both.1 } in
     record {
-      reciprocal = λ u q. absurd (zero_is_not-one (cc));
+      reciprocal = λ u q. absurd (zero_is_not_one (cc));
       common = λ x q. subst (IsCommonDivisor m a) (cc) it;
     }

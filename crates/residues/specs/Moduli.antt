@@ -4,7 +4,7 @@ use Rattle.std.proofs.Math.Path.{refl, sym}
 use Rattle.std.proofs.Common.{◌∙◌, ap, subst, suc-ne-zero, ltb-false}
 use Rattle.definitions.specs.Limits.{lowest_modulus, largest_modulus}
 use Rattle.definitions.specs.Refusals.{word_if, or_else, modulus_word}
-use Rattle.theory.specs.Tests.{zero_is_not-one}
+use Rattle.theory.specs.Tests.{zero_is_not_one}
 use Rattle.residues.specs.declared.Modulus.{Modulus}
 use Rattle.residues.specs.declared.ModulusAnswer.{ModulusAnswer}
 use Rattle.residues.specs.declared.ModulusAnswer.TheVariants as answer
@@ -81,10 +81,10 @@ module _ (m : ℕ) where
   made_by zero z k e =
       let same : modulus_at m ≡ k = cc in
       subst (MadeFrom m) same (record { valid = valid_modulus z; value_is = refl; accepted = z })
-  made_by (suc w) z k e = absurd (zero_is_not-one (cc))
+  made_by (suc w) z k e = absurd (zero_is_not_one (cc))
 
   refused_by : (n w : ℕ) → answer_by m n ≡ answer.Refused w → w ≢ 0
-  refused_by zero w e z = zero_is_not-one (cc)
+  refused_by zero w e z = zero_is_not_one (cc)
   refused_by (suc n) w e z = suc-ne-zero n (ap number_of e ∙ z)
 
   -- each modulus that `Modulus::new` answers is valid, and it is m

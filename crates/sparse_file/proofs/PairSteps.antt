@@ -139,8 +139,8 @@ module _ (long m : ℕ) (bytes : List ℕ) (place : ℕ) {r : _} (reads : ReadsA
   pub count_as : (o : _) → r ≡ o → read_contents sparse long m (drop place bytes) ≡ and_then (outcome_of bytes o) with_count
   count_as o e = ap (λ (p : Outcome groups.Numeral). and_then p with_count) (sym (read_as reads o e))
 
-  pub no_count-word : {w : ℕ} → r ≡ Refused w → w ≡ number_of (and_then (read_contents sparse long m (drop place bytes)) to_end)
-  no_count-word {w} e = sym (ap (λ (o : Outcome Entries). number_of (and_then o to_end)) (count_as (Refused w) e))
+  pub no_count_word : {w : ℕ} → r ≡ Refused w → w ≡ number_of (and_then (read_contents sparse long m (drop place bytes)) to_end)
+  no_count_word {w} e = sym (ap (λ (o : Outcome Entries). number_of (and_then o to_end)) (count_as (Refused w) e))
 
   pub count_word : {x : Numeral} → r ≡ Number x → {w : ℕ} → w ≡ pairs_number x.value long m (drop x.next bytes) →
       w ≡ number_of (and_then (read_contents sparse long m (drop place bytes)) to_end)

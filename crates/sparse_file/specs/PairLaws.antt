@@ -9,7 +9,7 @@ use Rattle.definitions.specs.Outcomes.{Outcome, accepted, refused, and_then, unl
 use Rattle.definitions.specs.Refusals.{word_if}
 use Rattle.definitions.specs.Groups.{Numeral, read_number}
 use Rattle.definitions.specs.Files.{Entries, Pair, sparse, leads_on, read_gap, counts, read_value, read_pair, pair_in_front, read_pairs, read_contents, zeros}
-use Rattle.theory.specs.Tests.{zero_is_not-one}
+use Rattle.theory.specs.Tests.{zero_is_not_one}
 use Rattle.checks.specs.Words.{no_word}
 use Rattle.table_header.specs.Words.{Proper, proper_accepted, proper_then, proper_unless, proper_number, word_small, passed, passed_test}
 
@@ -50,7 +50,7 @@ record ValueRead (m : ℕ) (bytes : List ℕ) (x : Numeral) : Type 0 where
   below : x.value < m
 
 not_zero : (v : ℕ) → eqb v 0 ≡ false → 0 < v
-not_zero zero e = absurd (zero_is_not-one (let f : eqb 0 0 ≡ true = eq-eqb 0 0 refl in let g = sym f ∙ e in cc))
+not_zero zero e = absurd (zero_is_not_one (let f : eqb 0 0 ≡ true = eq-eqb 0 0 refl in let g = sym f ∙ e in cc))
 not_zero (suc v) e = omega arith
 
 value_read : (m : ℕ) (bytes : List ℕ) (x : Numeral) → read_value m bytes ≡ accepted x → ValueRead m bytes x

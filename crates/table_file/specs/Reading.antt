@@ -10,7 +10,7 @@ use Rattle.definitions.specs.Outcomes.{Outcome, accepted, refused, and_then, unl
 use Rattle.definitions.specs.Refusals.{word_if}
 use Rattle.definitions.specs.Groups as groups
 use Rattle.definitions.specs.Files.{Header, Entries, TableFile, read_entries, entry_in_front, read_contents, tail_word, read_body}
-use Rattle.theory.specs.Tests.{zero_is_not-one}
+use Rattle.theory.specs.Tests.{zero_is_not_one}
 use Rattle.table_header.specs.Words.{accepts, passed, passed_test}
 use Rattle.table_header.specs.Ends.{to_end, number_unless, number_in_front}
 use Rattle.table_file.specs.Entries.{below_modulus, read_entry, entries_to_end, behind_header, contents_number}
@@ -143,7 +143,7 @@ order_by : (h : Header) (long : ℕ) (t : TableFile) (same : Bool) → eqb long 
 order_by h long t true f e =
     let b = body_read h t e in
     record { as_long = eqb-true _ _ f; body = b; outcome = rw f b.outcome }
-order_by h long t false f e = absurd (zero_is_not-one (cc))
+order_by h long t false f e = absurd (zero_is_not_one (cc))
 
 pub in_order : (h : Header) (long : ℕ) → number_of (behind_header h long) ≡ 0 → InOrder h long
 in_order h long e =

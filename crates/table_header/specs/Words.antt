@@ -10,7 +10,7 @@ use Rattle.definitions.specs.Outcomes.{Outcome, accepted, refused, and_then, unl
 use Rattle.definitions.specs.Refusals.{word_if, or_else, modulus_word}
 use Rattle.definitions.specs.Groups.{read_number}
 use Rattle.definitions.specs.Files.{first_says, first_of, read_header}
-use Rattle.theory.specs.Tests.{zero_is_not-one}
+use Rattle.theory.specs.Tests.{zero_is_not_one}
 use Rattle.number_groups.specs.Numbers.{reads_word}
 
 pub record IsWord (k : ℕ) : Type 0 where
@@ -24,7 +24,7 @@ Proper o = (k : ℕ) → o ≡ refused k → IsWord k
 -- ---- steps
 
 pub proper_accepted : {X : Type 0} (x : X) → Proper (accepted x)
-proper_accepted x k e = absurd (zero_is_not-one (cc))
+proper_accepted x k e = absurd (zero_is_not_one (cc))
 
 pub proper_then : {X Y : Type 0} (o : Outcome X) (next : X → Outcome Y) → Proper o → ((x : X) → Proper (next x)) → Proper (and_then o next)
 proper_then (accepted x) next h g k e = g x k e
@@ -88,7 +88,7 @@ pub record Passed {X Y : Type 0} (o : Outcome X) (next : X → Outcome Y) (y : Y
 
 pub passed : {X Y : Type 0} (o : Outcome X) (next : X → Outcome Y) (y : Y) → and_then o next ≡ accepted y → Passed o next y
 passed (accepted x) next y e = record { value = x; first = refl; then = e }
-passed (refused k) next y e = absurd (zero_is_not-one (cc))
+passed (refused k) next y e = absurd (zero_is_not_one (cc))
 
 pub record NoWord {X : Type 0} (w : ℕ) (o : Outcome X) (y : X) : Type 0 where
   pub none : w ≡ 0
@@ -96,4 +96,4 @@ pub record NoWord {X : Type 0} (w : ℕ) (o : Outcome X) (y : X) : Type 0 where
 
 pub passed_test : {X : Type 0} (w : ℕ) (o : Outcome X) (y : X) → unless w o ≡ accepted y → NoWord w o y
 passed_test zero o y e = record { none = refl; then = e }
-passed_test (suc w) o y e = absurd (zero_is_not-one (cc))
+passed_test (suc w) o y e = absurd (zero_is_not_one (cc))

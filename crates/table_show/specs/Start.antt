@@ -12,7 +12,7 @@ use Rattle.definitions.specs.Refusals.{word_if, modulus_word}
 use Rattle.definitions.specs.Groups.{Numeral, in_front, read_number}
 use Rattle.definitions.specs.Files.{Kind, full, sparse, First, Header, Entries, Pair, first_of, read_header, read_entries, leads_on, counts, read_gap, read_value, read_pair, read_pairs, zeros, read_contents, read_body, tail_word}
 use Rattle.definitions.specs.Show.{read_shown, shown, text_of}
-use Rattle.theory.specs.Tests.{below_or, and_true_left, and_true_right, zero_is_not-one}
+use Rattle.theory.specs.Tests.{below_or, and_true_left, and_true_right, zero_is_not_one}
 use Rattle.checks.specs.Words.{no_word}
 use Rattle.number_groups.specs.Numbers.{reads_none, reads_last, reads_more, reads_word, in_front_lem}
 use Rattle.table_header.specs.HeaderAnswers.{with_modulus}
@@ -54,7 +54,7 @@ last_read : (b : ℕ) (bs : List ℕ) (x : Numeral) → b < 128 → read_number 
 last_read b bs x l e = let f = sym (reads_last b bs l) ∙ e in cc
 
 none_read : (x : Numeral) → read_number [] ≡ accepted x → ⊥
-none_read x e = let f = sym reads_none ∙ e in zero_is_not-one (cc)
+none_read x e = let f = sym reads_none ∙ e in zero_is_not_one (cc)
 
 more_reads : (b : ℕ) (bs : List ℕ) (y x : Numeral) (rest : List ℕ) → 128 ≤ b → InFront (b - 128) y x →
     read_number bs ≡ accepted (record { value = y.value; rest = rest }) → read_number (b ∷ bs) ≡ accepted (record { value = x.value; rest = rest })
@@ -174,7 +174,7 @@ number_by k bs (accepted y) (refused w) d e h =
     let all : read_number bs ≡ accepted (record { value = y.value; rest = y.rest ++ drop k bs }) =
     ap read_number (sym (take-append-drop k bs)) ∙ append_read (take k bs) (drop k bs) y d in
     let f = sym e ∙ all in
-    absurd (zero_is_not-one (cc))
+    absurd (zero_is_not_one (cc))
 number_by k bs (refused v) (refused w) d e h = inr (ap refused (reads_word (take k bs) v d ∙ sym (reads_word bs w e)))
 
 number_start : (k : ℕ) (bs : List ℕ) → 5 ≤ k → Same cut_number 5 k (read_number (take k bs)) (read_number bs)

@@ -16,7 +16,7 @@ use Rattle.std.proofs.lemmas.List.Edits.{sets}
 use Rattle.std.proofs.Math.Seq.{length-sets}
 use Rattle.definitions.specs.Show.{decimal, digits_in}
 use Rattle.definitions.specs.Pages.{blanks, filled, aligned}
-use Rattle.theory.specs.Tests.{below_or, zero_is_not-one}
+use Rattle.theory.specs.Tests.{below_or, zero_is_not_one}
 use Rattle.number_groups.specs.Stores.{sets_append}
 use Rattle.text_pieces.specs.Text.{Writes, digits_left, digit_or_blank}
 
@@ -165,8 +165,8 @@ writes_front {old} {text} {mid} {i} {j} b e w = record {
 -- one piece over another that is as long
 sets_again : (l : List ℕ) (i : ℕ) (a b : List ℕ) → length a ≡ length b → sets (sets l i a) i b ≡ sets l i b
 sets_again l i [] [] e = refl
-sets_again l i [] (y ∷ b) e = absurd (zero_is_not-one (omega arith))
-sets_again l i (x ∷ a) [] e = absurd (zero_is_not-one (omega arith))
+sets_again l i [] (y ∷ b) e = absurd (zero_is_not_one (omega arith))
+sets_again l i (x ∷ a) [] e = absurd (zero_is_not_one (omega arith))
 sets_again l i (x ∷ a) (y ∷ b) e =
     ap (λ (m : List ℕ). sets m (suc i) b)
     (set_before (set l i x) i (suc i) y a (omega arith) ∙ ap (λ (m : List ℕ). sets m (suc i) a) (set-set l i x y))

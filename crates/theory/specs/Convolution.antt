@@ -12,7 +12,7 @@ use Rattle.std.specs.Int.Bits.{bit_or, bit_xor}
 use Rattle.definitions.specs.Sums.{tabulate, at}
 use Rattle.definitions.specs.Products.{residues, pair_sum, union_table, xor_table}
 use Rattle.theory.specs.Lists.{length-tabulate, at-tabulate, at-residues, residues_ext, residues_of}
-use Rattle.theory.specs.Remainders.{mod-add, mod-mul, minus-times, minus-one_squared}
+use Rattle.theory.specs.Remainders.{mod-add, mod-mul, minus-times, minus_one_squared}
 use Rattle.theory.specs.Semiring.{both}
 use Rattle.theory.specs.Halves.{Table, tab, tab_ext, tab_inj}
 use Rattle.theory.specs.Congruence.{red, tab_red}
@@ -141,7 +141,7 @@ module _ (m : ℕ) (pos : 0 < m) where
     pub xor_by_walsh : transformed (add_upper m) (take_upper m) n (point_table n m (transformed (add_upper m) (take_upper m) n A) (transformed (add_upper m) (take_upper m) n B))
         ≡ residues n m (λ S. 2 ^ n * pair_sum bit_xor n (at A) (at B) S)
     xor_by_walsh =
-        by_transforms m xor_joins {β = 1} {δ = m - 1} {d = 2} refl (rw (zero-mul (m - 1)) (sym (minus-one_squared m pos))) undoes
+        by_transforms m xor_joins {β = 1} {δ = m - 1} {d = 2} refl (rw (zero-mul (m - 1)) (sym (minus_one_squared m pos))) undoes
         (add_upper_row m) take_upper_row (add_upper_row m) take_upper_row n A B a b
       where
         undoes : Undoes m 1 (m - 1) 1 1 1 (m - 1) 2
@@ -149,7 +149,7 @@ module _ (m : ℕ) (pos : 0 < m) where
           first = refl;
           second = zero_sum _ (omega arith);
           third = zero_sum _ (omega arith);
-          fourth = mod-add m (1 * 1) ((m - 1) * (m - 1)) 1 1 refl (minus-one_squared m pos);
+          fourth = mod-add m (1 * 1) ((m - 1) * (m - 1)) 1 1 refl (minus_one_squared m pos);
         }
 
     -- u is the inverse of 2 ^ n

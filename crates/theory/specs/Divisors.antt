@@ -7,7 +7,7 @@ use Rattle.std.specs.Prelude.{◌≡◌, refl, true, false, ℕ, zero, suc, ◌+
 use Rattle.std.proofs.Common.{sym, ap, ◌∙◌, ⊎_elim, div-add-mod', mod-eq_of_lt, mod-lt, zero-mul, one-mul, mul-zero, zero-add, arith, ltb→lt, eqb→eq, lt-ltb}
 use Rattle.std.proofs.Math.Nat.{mod_self, mod-zero, zero-mod}
 use Rattle.definitions.specs.Partitions.{shares_divisor}
-use Rattle.theory.specs.Tests.{no_test, and_left, and_right, below_or, zero_is_not-one}
+use Rattle.theory.specs.Tests.{no_test, and_left, and_right, below_or, zero_is_not_one}
 use Rattle.theory.specs.Sums.{none_some, some_found}
 use Rattle.theory.specs.Remainders.{lacks, mod-add, mod-mul, mod_cancel}
 
@@ -38,7 +38,7 @@ coprime m x u e = none_some (suc m) _ (λ d h. no_test _ (λ t. clash d
         let whole : x * u ≡ q * m + 1 = sym (div-add-mod' (x * u) m) ∙ ap (λ (r : ℕ). q * m + r) e in
         let left : x * u % d ≡ 0 = mod-mul d x u 0 u (dx ∙ sym (zero-mod d)) refl ∙ ap (λ (r : ℕ). r % d) (zero-mul u) ∙ zero-mod d in
         let right : (q * m + 1) % d ≡ 1 = mod-add d (q * m) 1 0 1 (mod-mul d q m q 0 refl (dm ∙ sym (zero-mod d)) ∙ ap (λ (r : ℕ). r % d) (mul-zero q)) refl ∙ mod-eq_of_lt big in
-        zero_is_not-one (sym left ∙ ap (λ (r : ℕ). r % d) whole ∙ right)
+        zero_is_not_one (sym left ∙ ap (λ (r : ℕ). r % d) whole ∙ right)
 
 -- ---- Euclid: r and s stay multiples of x modulo m, and what divides both divides m and x
 
@@ -87,7 +87,7 @@ module _ (m x : ℕ) (pos : 0 < m) (h : shares_divisor m x ≡ false) where
   by_divisor (suc zero) u e d = (u, e)
   by_divisor (suc (suc g)) u e d =
       let t : true ≡ false = sym (shared m x (suc (suc g)) pos (omega arith) d.0 d.1) ∙ h in
-      absurd (zero_is_not-one (cc))
+      absurd (zero_is_not_one (cc))
 
   -- s falls
   by_steps : (n r s u v : ℕ) → s ≤ n → Euclid m x r s u v → (u : ℕ) × (u * x % m ≡ 1 % m)

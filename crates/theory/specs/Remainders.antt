@@ -13,15 +13,15 @@ pub mod-add : (m a b c d : ℕ) → a % m ≡ c % m → b % m ≡ d % m → (a +
 mod-add m a b c d p q = add-mod a b m ∙ ap₂ (λ (x y : ℕ). (x + y) % m) p q ∙ sym (add-mod c d m)
 
 -- a factor's remainder does for the factor
-pub mul-mod_l : (m a b : ℕ) → a * b % m ≡ a % m * b % m
-mul-mod_l m a b =
+pub mul_mod_l : (m a b : ℕ) → a * b % m ≡ a % m * b % m
+mul_mod_l m a b =
     let e : a * b ≡ a / m * b * m + a % m * b = omega (arith, ap (λ (k : ℕ). k * b) (div-add-mod' a m)) in
     ap (λ (k : ℕ). k % m) e ∙ mul-add-mod_self_right (a / m * b) m (a % m * b)
 
 pub mod-mul : (m a b c d : ℕ) → a % m ≡ c % m → b % m ≡ d % m → a * b % m ≡ c * d % m
 mod-mul m a b c d p q =
-    mul-mod_l m a b ∙ ap (λ (k : ℕ). k * b % m) p ∙ sym (mul-mod_l m c b) ∙ ap (λ (k : ℕ). k % m) (mul_comm c b)
-    ∙ mul-mod_l m b c ∙ ap (λ (k : ℕ). k * c % m) q ∙ sym (mul-mod_l m d c) ∙ ap (λ (k : ℕ). k % m) (mul_comm d c)
+    mul_mod_l m a b ∙ ap (λ (k : ℕ). k * b % m) p ∙ sym (mul_mod_l m c b) ∙ ap (λ (k : ℕ). k % m) (mul_comm c b)
+    ∙ mul_mod_l m b c ∙ ap (λ (k : ℕ). k * c % m) q ∙ sym (mul_mod_l m d c) ∙ ap (λ (k : ℕ). k % m) (mul_comm d c)
 
 pub mod_back : (m x y : ℕ) → y ≤ m → ((x + (m - y)) % m + y) % m ≡ x % m
 mod_back m x y h =
@@ -61,8 +61,8 @@ module _ (m : ℕ) (pos : 0 < m) where
       ∙ mod-add m ((m - 1) * x + x) y 0 y (minus_one x ∙ sym (zero-mod m)) refl ∙ ap (λ (k : ℕ). k % m) (zero-add y) in
       ap (λ (k : ℕ). (k + (m - x % m)) % m) (sym same) ∙ mod-sub z x
 
-  pub minus-one_squared : (m - 1) * (m - 1) % m ≡ 1 % m
-  minus-one_squared =
+  pub minus_one_squared : (m - 1) * (m - 1) % m ≡ 1 % m
+  minus_one_squared =
       let c : ℕ = m - 1 in
       let twice : c + c * c ≡ c * c + c = omega arith in
       let once : c + 1 ≡ c * 1 + 1 = omega arith in

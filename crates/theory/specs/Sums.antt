@@ -12,7 +12,7 @@ use Rattle.std.proofs.Math.Nat.{max-zero, add-mod}
 use Rattle.std.proofs.Math.Decide.{ℕ_discrete}
 use Rattle.definitions.specs.Sums.{sum, list_sum, count, some, largest, tabulate, keep}
 use Rattle.definitions.specs.Sets.{inside, subsets}
-use Rattle.theory.specs.Tests.{zero_is_not-one}
+use Rattle.theory.specs.Tests.{zero_is_not_one}
 
 -- ---- sum
 
@@ -168,7 +168,7 @@ none_some (suc n) test h = rw (h n (omega arith)) (none_some n test (λ i k. h i
 -- some i passes, and this is one
 pub some_which : (n : ℕ) (test : ℕ → Bool) → some n test ≡ true → (i : ℕ) × (i < n) × (test i ≡ true)
 unfolding some
-some_which zero test e = absurd (zero_is_not-one (cc))
+some_which zero test e = absurd (zero_is_not_one (cc))
 some_which (suc n) test e = which (test n) refl e (some_which n test) where
   which : (b : Bool) → test n ≡ b → cond b true (some n test) ≡ true → (some n test ≡ true → (i : ℕ) × (i < n) × (test i ≡ true))
       → (i : ℕ) × (i < suc n) × (test i ≡ true)

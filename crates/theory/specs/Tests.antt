@@ -2,7 +2,7 @@
 --   same_test, no_test, yes_test    a test by what it implies
 --   and_left, and_right, and_both   the tests that `&&` joins, as proofs; and_true_left, .. as equations
 --   below_or                        a number is below a bound or not
---   zero_is_not-one                 for two constructors that cannot be the same: `cc` proves 0 = 1 of them
+--   zero_is_not_one                 for two constructors that cannot be the same: `cc` proves 0 = 1 of them
 --   guard_ext, guard_zero           guarded terms
 use Rattle.std.specs.Prelude.{◌≡◌, refl, Bool, true, false, cond, ◌&&◌, ◌⊎◌, ℕ, ◌<◌, ◌≤◌, T}
 use Rattle.std.proofs.Common.{inl, inr, arith}
@@ -40,8 +40,8 @@ pub and_true_right : (b c : Bool) → (b && c) ≡ true → c ≡ true
 and_true_right true c e = e
 and_true_right false c e = cc
 
-pub zero_is_not-one : ◌≡◌ {A = ℕ} 0 1 → ⊥
-zero_is_not-one e = omega arith
+pub zero_is_not_one : ◌≡◌ {A = ℕ} 0 1 → ⊥
+zero_is_not_one e = omega arith
 
 pub below_or : (c m : ℕ) → (c < m) ⊎ (m ≤ c)
 below_or c m = elim (dec_lt c m) [ yes h ↦ inl h | no k ↦ inr (omega arith) ]

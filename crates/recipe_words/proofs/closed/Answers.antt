@@ -1,9 +1,9 @@
 use native.Mathlib.Omega.{arith}
-use Rattle.recipe_words.proofs.Factors.{not-closed_end, not-closed, closed_plain, closed_call}
+use Rattle.recipe_words.proofs.Factors.{not_closed_end, not-closed, closed_plain, closed_call}
 use Rattle.recipe_words.proofs.closed.Goals as goal
 
 pub returns-then-line-next : goal.returns-then-line-next
-returns-then-line-next c = not-closed_end _ _ c.if-line-next.true
+returns-then-line-next c = not_closed_end _ _ c.if-line-next.true
 
 pub returns-then-line-next-ne41 : goal.returns-then-line-next-ne41
 returns-then-line-next-ne41 c = not-closed _ _ c.if-line-next.false c.if-line-next-ne41.true

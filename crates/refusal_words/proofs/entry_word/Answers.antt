@@ -12,8 +12,8 @@ pub loop-i-preserved : goal.loop-i-preserved
 loop-i-preserved c = let s = c.args in (
   search rules,
   elim c.if-m-a.branch [
-    then-m-a w ↦ w.word-is ∙ entry_above s.m s.a.now c.loop-i.i (search rules) w.if-m-a.true
-  | else-m-a w ↦ w.word-is ∙ entry_below s.m s.a.now c.loop-i.i (search rules) w.if-m-a.false c.loop-i.invariant.1
+    | then-m-a w ↦ w.word-is ∙ entry_above s.m s.a.now c.loop-i.i (search rules) w.if-m-a.true
+    | else-m-a w ↦ w.word-is ∙ entry_below s.m s.a.now c.loop-i.i (search rules) w.if-m-a.false c.loop-i.invariant.1
   ],
 )
 
