@@ -153,16 +153,19 @@ def main():
         new = turn(t, p)
         if new != t:
             open(p, "w", encoding="utf-8").write(new)
-    camel = {n: new for n, new in names.items() if not ("-" in n)}
+    camel = {n: new for n, new in names.items() if re.search("[a-z0-9][A-Z]", n) and "-" not in n}
     every = dict(names)
     for p in files("rt"):
         t = open(p, encoding="utf-8").read()
-        names.clear()
-        names.update(camel)
-        new = turn(t, p)
+        parts = re.split(r"(ghost use [^;]*;)", t)
+        # in the code and the clauses between them a dash may be a minus
+        for i, part in enumerate(parts):
+            names.clear()
+            names.update(every if i % 2 else camel)
+            parts[i] = turn(part, p)
         names.clear()
         names.update(every)
-        new = re.sub(r"ghost use [^;]*;", lambda m: turn(m[0], p), new)
+        new = "".join(parts)
         if new != t:
             open(p, "w", encoding="utf-8").write(new)
     for p in files("edit"):

@@ -41,9 +41,9 @@ shown_file = refl
 -- ---- the sparse kind
 
 -- the same table: 34, 7, two entries; gap 1 and value 3, gap 1 and value 5
-pub sparse_file_lem : file_of sparse 2 7 (0 ∷ 3 ∷ 0 ∷ 5 ∷ []) ≡ 34 ∷ 7 ∷ 2 ∷ 1 ∷ 3 ∷ 1 ∷ 5 ∷ []
+pub sparse_file : file_of sparse 2 7 (0 ∷ 3 ∷ 0 ∷ 5 ∷ []) ≡ 34 ∷ 7 ∷ 2 ∷ 1 ∷ 3 ∷ 1 ∷ 5 ∷ []
 unfolding file_of groups_in nonzero_count pairs_from flat_map
-sparse_file_lem = refl
+sparse_file = refl
 
 pub shown_sparse : shown (34 ∷ 7 ∷ 2 ∷ 1 ∷ 3 ∷ 1 ∷ 5 ∷ []) ≡ shown (2 ∷ 7 ∷ 0 ∷ 3 ∷ 0 ∷ 5 ∷ [])
 unfolding read_shown read_header read_number first_of first_says read_entries read_gap read_value read_pair read_pairs zeros table_text entry_line digits_in tabulate flat_map ones

@@ -71,10 +71,10 @@ file_bytes kind n m a =
 
 -- ---- bytes that begin with numbers as they are written
 
-bytes_behind_lem : (xs ys : List ℕ) → all_below 256 (xs ++ ys) ≡ true → all_below 256 ys ≡ true
+bytes_behind : (xs ys : List ℕ) → all_below 256 (xs ++ ys) ≡ true → all_below 256 ys ≡ true
 unfolding all_below
-bytes_behind_lem [] ys h = h
-bytes_behind_lem (x ∷ xs) ys h = bytes_behind_lem xs ys (and_true_right (ltb x 256) (all_below 256 (xs ++ ys)) h)
+bytes_behind [] ys h = h
+bytes_behind (x ∷ xs) ys h = bytes_behind xs ys (and_true_right (ltb x 256) (all_below 256 (xs ++ ys)) h)
 
 -- bytes that begin with a number as it is written
 pub record NumberForth (bytes : List ℕ) (x : Numeral) : Type 0 where
@@ -84,7 +84,7 @@ pub record NumberForth (bytes : List ℕ) (x : Numeral) : Type 0 where
 pub number_forth : (bytes : List ℕ) (x : Numeral) → all_below 256 bytes ≡ true → read_number bytes ≡ accepted x → NumberForth bytes x
 number_forth bytes x h e =
     let w = reads_written bytes x h e in
-    record { form = w.form; bytes_left = bytes_behind_lem (groups x.value) x.rest (rw w.form at h) }
+    record { form = w.form; bytes_left = bytes_behind (groups x.value) x.rest (rw w.form at h) }
 
 -- bytes that begin with entries as they are written, by the numbers that are written of them
 pub record EntriesForth (numbers : List ℕ → List ℕ) (k m : ℕ) (bytes : List ℕ) (x : Entries) : Type 0 where

@@ -19,7 +19,8 @@ use Rattle.definitions.specs.Pages.{blanks, filled}
 use Rattle.theory.specs.Tests.{below_or, zero_is_not_one}
 use Rattle.page_theory.specs.Widths.{length-filled}
 use Rattle.label_theory.specs.Labels.{GoodLabel}
-use Rattle.label_theory.specs.SheetLaws.{entry_of, sheet_of, LabelsRead, labels_read}
+use Rattle.label_theory.specs.SheetLaws.{entry_of, sheet_of}
+use Rattle.label_theory.proofs.SheetLaws.{LabelsRead, labels_read}
 use Rattle.label_sheet.specs.SheetAnswers.{Tested}
 use Rattle.label_sheet.specs.LabelArrays.{as_number, name_of, byte_or_blank, array_length, labels_in, Held, Fills, Loaded}
 use Rattle.label_sheet.proofs.SheetSteps.{SheetTested, sheet_word, sheet_accepts}

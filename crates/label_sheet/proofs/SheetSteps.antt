@@ -15,7 +15,7 @@ use Rattle.definitions.specs.Files.{tail_word}
 use Rattle.definitions.specs.Sheets.{between, alphanumeric, label_length_word, label_byte_word, Label, byte_in_front, read_bytes, read_label}
 use Rattle.definitions.specs.Sheets.{Labels, label_in_front, read_labels, equal_word, sheet_end, read_sheet, sheet_number}
 use Rattle.theory.specs.Tests.{zero_is_not_one}
-use Rattle.label_theory.specs.SheetLaws.{worded_labels}
+use Rattle.label_theory.proofs.SheetLaws.{worded_labels}
 use Rattle.number_groups.specs.NumberAnswers.{outcome_of, ReadsAt, read_as}
 use Rattle.number_groups.specs.declared.NumberAnswer.TheVariants as number
 use Rattle.number_groups.specs.declared.Numeral as read

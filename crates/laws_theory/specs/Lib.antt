@@ -1,4 +1,3 @@
 pub mod Calls
 pub mod Demand
 pub mod Accepting
-pub mod Theorem

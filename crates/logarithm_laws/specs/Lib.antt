@@ -1,2 +1,1 @@
 pub mod Law
-pub mod Theorem

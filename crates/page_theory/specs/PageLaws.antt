@@ -1,11 +1,9 @@
--- What 02 says of lines and pages, as a theorem over any layout.
---   paged    which entries have a line, in which order, and how many lines a page has
+-- What 02 says of lines and pages, of any layout: the statement, and the text page by page. Its proof is in proofs/Paged.
 use Rattle.std.specs.Prelude.{◌≡◌, refl, cond, ◌≢◌, ℕ, ◌+◌, ◌<◌, ◌≤◌, length}
 use mathlib.Core.List.{List, ◌++◌, flat_map}
 use Rattle.definitions.specs.Sums.{tabulate, at}
 use Rattle.definitions.specs.Pages.{Layout, line_of, heading, nonzero_codes, page_count, on_page, lines_of, page_text, pages_text}
-use Rattle.page_theory.specs.Codes.{nonzero, times, codes_once, codes_rise, codes_none, codes_some}
-use Rattle.page_theory.specs.Paging.{full_page, last_page, only_heading, all_lines}
+use Rattle.page_theory.specs.Codes.{nonzero, times}
 
 abbrev pub page_of : Layout → List ℕ → ℕ → List ℕ
 page_of y A i = heading y.heading_width (i + 1) (page_count A) ++ flat_map (λ S. line_of y S (at A S)) (on_page A i)
@@ -26,17 +24,6 @@ pub record Paged (y : Layout) (A : List ℕ) : Type 0 where
   -- and a table of zeros has one page with only its heading
   pub zeros : ((S : ℕ) → at A S ≡ 0) → pages_text y A ≡ heading y.heading_width 1 1
 
-by_pages : (y : Layout) (A : List ℕ) → pages_text y A ≡ flat_map (page_of y A) (tabulate (page_count A) (λ i. i))
+pub by_pages : (y : Layout) (A : List ℕ) → pages_text y A ≡ flat_map (page_of y A) (tabulate (page_count A) (λ i. i))
 unfolding pages_text page_text lines_of
 by_pages y A = refl
-
-pub paged : (y : Layout) (A : List ℕ) → Paged y A
-paged y A = record {
-  once = codes_once A;
-  rising = (codes_rise A).rises;
-  text = by_pages y A;
-  together = all_lines A;
-  full = full_page A;
-  last = λ S d i e. last_page A i (codes_some A S d) e;
-  zeros = λ h. only_heading y A (codes_none A h);
-}

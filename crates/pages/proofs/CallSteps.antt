@@ -15,7 +15,7 @@ use Rattle.table_writer.specs.Writing.{refused_with, TextBy}
 use Rattle.table_writer.specs.WritingLaws.{text_accepted, text_refused}
 use Rattle.table_writer.specs.declared.Written.{Written}
 use Rattle.label_theory.specs.Labels.{GoodLabels}
-use Rattle.label_theory.specs.LabelLaws.{shown}
+use Rattle.label_theory.proofs.LabelLaws.{shown}
 use Rattle.label_sheet.specs.LabelArrays.{Loaded}
 use Rattle.label_column.specs.Columns.{Ready, layout_of}
 use Rattle.pages.specs.PagesBy.{IfRoom, IfSheet}

@@ -23,7 +23,8 @@ use Rattle.ranked_theory.specs.Rows.{Placed}
 use Rattle.ranked_theory.specs.Places as runs
 use Rattle.ranked_theory.specs.Layout.{rows_length, rows_mono}
 use Rattle.projection_theory.specs.Pairing.{paired, paired-mod}
-use Rattle.projection_theory.specs.Levels.{paired_all, Same, same_tables, turn_none, turn, top, bottom}
+use Rattle.projection_theory.specs.Levels.{paired_all, Same, same_tables, turn_none, top, bottom}
+use Rattle.projection_theory.proofs.Turns.{turn}
 use Rattle.projection.specs.Places.{TurnReady, TurnMade}
 use Rattle.projection.specs.Levels.{slots, Residues, Areas, LevelReady, LevelMade, Ready}
 use Rattle.projection.proofs.Places.{untouched, part_placed}

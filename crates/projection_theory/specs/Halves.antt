@@ -2,15 +2,12 @@
 --   last, last-add, last-zeros, tab-last   the entry of the set of all controls
 --   pairing n a f b                        the last entry of a · f(b), where f(b) is b composed with the row f
 --   pairing_step                           by halves: the step of source 001 section 4
---   pairing_rows                           linear in the row
-use Rattle.std.specs.Prelude.{◌≡◌, refl, Bool, cond, ℕ, zero, suc, ◌+◌, ◌-◌, ◌*◌, ◌^◌, ◌≤◌}
-use Rattle.std.proofs.Common.{sym, ap, ap₂, ◌∙◌, arith, pow_pos, ne_eqb}
+use Rattle.std.specs.Prelude.{◌≡◌, refl, Bool, cond, ℕ, zero, suc, ◌+◌, ◌-◌, ◌^◌, ◌≤◌}
+use Rattle.std.proofs.Common.{sym, ap, ◌∙◌, arith, pow_pos}
 use Rattle.std.proofs.Math.Path.{fun_ext}
 use Rattle.std.proofs.Math.Nat as N
-use Rattle.std.proofs.Math.Dec.{eqb-suc-suc, eqb-suc-zero}
-use Rattle.definitions.specs.Sums.{sum}
+use Rattle.std.proofs.Math.Dec.{eqb-suc-suc}
 use Rattle.definitions.specs.Projection.{one_at}
-use Rattle.theory.specs.Sums.{sum-last, sum_front, sum-plus, sum_ext}
 use Rattle.theory.specs.Semiring.{both, zero_mul}
 use Rattle.theory.specs.Halves.{Table, Row, shift, zeros, add, mul, comp, laws, tab}
 
@@ -61,33 +58,10 @@ comp_none (suc n) f b h =
     both (comp_none n f b.0 (λ k l. h k (omega arith)))
     (rw (comp_none n (shift f) b.0 (λ k l. h (suc k) (omega arith))) (zero_mul (laws n) _))
 
-pairing_none : (n : ℕ) (a b : Table n) (f : Row) → ((k : ℕ) → k ≤ n → f k ≡ 0) → pairing n a f b ≡ 0
+pub pairing_none : (n : ℕ) (a b : Table n) (f : Row) → ((k : ℕ) → k ≤ n → f k ≡ 0) → pairing n a f b ≡ 0
 unfolding pairing
 pairing_none n a b f h =
     ap (λ (t : Table n). last n (mul n a t)) (comp_none n f b h) ∙ ap (last n) ((laws n).mul_zero a) ∙ last-zeros n
 
-shift_one : (i : ℕ) → shift (one_at (suc i)) ≡ one_at i
+pub shift_one : (i : ℕ) → shift (one_at (suc i)) ≡ one_at i
 shift_one i = fun_ext (λ k. ap (λ (b : Bool). cond b 1 0) (eqb-suc-suc k i))
-
-pub pairing_rows : (n : ℕ) (a b : Table n) (f : Row) → sum (suc n) (λ i. f i * pairing n a (one_at i) b) ≡ pairing n a f b
-unfolding pairing last mul comp sum
-pairing_rows zero a b f = omega arith
-pairing_rows (suc n) a b f =
-    let c : Table n = b.0 in
-    let d : Table n = mul n a.0 b.1 in
-    let g : ℕ → ℕ = λ i. f i * pairing n a.1 (one_at i) c in
-    let h : ℕ → ℕ = λ i. f i * pairing n d (shift (one_at i)) c in
-    let parts : (i : ℕ) → f i * pairing (suc n) a (one_at i) b ≡ g i + h i =
-    λ i. ap (λ (x : ℕ). f i * x) (pairing_step n a b (one_at i)) ∙ N.mul-add (f i) _ _ in
-    -- of n controls there are no n + 1 blocks, and no 0 blocks with one taken off
-    let top : g (suc n) ≡ 0 =
-    ap (λ (x : ℕ). f (suc n) * x) (pairing_none n a.1 c (one_at (suc n)) (λ k l. ap (λ (t : Bool). cond t 1 0) (ne_eqb k (suc n) (omega arith))))
-    ∙ N.mul-zero _ in
-    let first : h 0 ≡ 0 =
-    ap (λ (x : ℕ). f 0 * x) (pairing_none n d c (shift (one_at 0)) (λ k l. ap (λ (t : Bool). cond t 1 0) (eqb-suc-zero k))) ∙ N.mul-zero _ in
-    let lower : sum (suc (suc n)) g ≡ pairing n a.1 f c = sum-last (suc n) g ∙ ap₂ ◌+◌ (pairing_rows n a.1 c f) top ∙ N.add-zero _ in
-    let upper : sum (suc (suc n)) h ≡ pairing n d (shift f) c =
-    sum_front (suc n) h
-    ∙ ap₂ ◌+◌ first
-    (sum_ext (suc n) _ _ (λ i l. ap (λ (r : Row). f (suc i) * pairing n d r c) (shift_one i)) ∙ pairing_rows n d c (shift f)) ∙ N.zero-add _ in
-    sum_ext (suc (suc n)) _ _ (λ i l. parts i) ∙ sum-plus (suc (suc n)) g h ∙ ap₂ ◌+◌ lower upper ∙ sym (pairing_step n a b f)

@@ -1,5 +1,4 @@
-pub mod Halves
-pub mod Pairing
-pub mod Levels
-pub mod Law
 pub mod Blocks
+pub mod Halves
+pub mod Levels
+pub mod Pairing

@@ -1,29 +1,27 @@
 -- The pairing of Halves on functions of codes, and modulo m.
 --   paired k G f B                        the whole-panel entry of G · f(B), k controls
---   paired_half                           by halves
 --   paired-plus, paired_zero, paired-mod  in G
 --   paired_none_left                      with no controls: G[0] · f[0]
---   paired_rows                           linear in the row
 --   entry_paired, entry_is                of the definitions
 use Rattle.std.specs.Prelude.{◌≡◌, refl, List}
 use Rattle.std.proofs.Common.{sym, ◌∙◌, zero-mul, arith, pow_pos}
 use Rattle.std.proofs.Math.Path.{ap, ap₂}
 use Rattle.std.proofs.Math.Bool.{cond}
-use Prim.Native.Nat.{ℕ, suc, ◌+◌, ◌-◌, ◌*◌, ◌%◌, ◌^◌, ◌<◌, ◌≤◌}
-use Rattle.definitions.specs.Sums.{sum, at}
+use Prim.Native.Nat.{ℕ, ◌+◌, ◌-◌, ◌*◌, ◌%◌, ◌^◌, ◌<◌, ◌≤◌}
+use Rattle.definitions.specs.Sums.{at}
 use Rattle.definitions.specs.Sets.{inside}
 use Rattle.definitions.specs.Products.{subset_sum, subset_table}
 use Rattle.definitions.specs.Partitions.{composition_sum, composition_table}
 use Rattle.definitions.specs.Projection.{one_at, one_row, whole_entry, projection_entry}
-use Rattle.theory.specs.Sums.{sum_zero, sum_ext}
+use Rattle.theory.specs.Sums.{sum_zero}
 use Rattle.theory.specs.Tests.{guard_zero}
 use Rattle.theory.specs.Lists.{at-residues, at-tabulate}
-use Rattle.theory.specs.Halves.{Table, Row, shift, mul, tab}
+use Rattle.theory.specs.Halves.{Table, Row, mul, tab}
 use Rattle.theory.specs.Product.{tab-mul, subset_empty}
 use Rattle.theory.specs.Composition.{tab-comp, composition_empty}
 use Rattle.theory.specs.Series.{subset_comm, subset_plus, subset_mod, composition_mod}
 use Rattle.theory.specs.Tables.{at-mod}
-use Rattle.projection_theory.specs.Halves.{last, tab-last, pairing, pairing_step, pairing_rows}
+use Rattle.projection_theory.specs.Halves.{last, tab-last, pairing}
 
 unfoldable pub paired : ℕ → (ℕ → ℕ) → Row → (ℕ → ℕ) → ℕ
 paired k G f B = subset_sum k G (composition_sum k f B) (2 ^ k - 1)
@@ -32,25 +30,11 @@ paired k G f B = subset_sum k G (composition_sum k f B) (2 ^ k - 1)
 whole_in : (k : ℕ) → 2 ^ k - 1 < 2 ^ k
 whole_in k = omega (arith, pow_pos k)
 
-paired-tab : (k : ℕ) (G : ℕ → ℕ) (f : Row) (B : ℕ → ℕ) → paired k G f B ≡ pairing k (tab k G) f (tab k B)
+pub paired-tab : (k : ℕ) (G : ℕ → ℕ) (f : Row) (B : ℕ → ℕ) → paired k G f B ≡ pairing k (tab k G) f (tab k B)
 unfolding paired pairing
 paired-tab k G f B =
     sym (tab-last k (subset_sum k G (composition_sum k f B))) ∙ ap (last k) (sym (tab-mul k G (composition_sum k f B)))
     ∙ ap (λ (t : Table k). last k (mul k (tab k G) t)) (sym (tab-comp k f B))
-
-pub paired_half : (k : ℕ) (G : ℕ → ℕ) (f : Row) (B : ℕ → ℕ)
-    → paired (suc k) G f B ≡ paired k (λ S. G (2 ^ k + S)) f B + paired k (subset_sum k G (λ S. B (2 ^ k + S))) (shift f) B
-unfolding tab
-paired_half k G f B =
-    paired-tab (suc k) G f B ∙ pairing_step k (tab (suc k) G) (tab (suc k) B) f
-    ∙ ap₂ ◌+◌ (sym (paired-tab k (λ S. G (2 ^ k + S)) f B))
-    (ap (λ (t : Table k). pairing k t (shift f) (tab k B)) (tab-mul k G (λ S. B (2 ^ k + S)))
-    ∙ sym (paired-tab k (subset_sum k G (λ S. B (2 ^ k + S))) (shift f) B))
-
-pub paired_rows : (k : ℕ) (G : ℕ → ℕ) (f : Row) (B : ℕ → ℕ) → sum (suc k) (λ i. f i * paired k G (one_at i) B) ≡ paired k G f B
-paired_rows k G f B =
-    sum_ext (suc k) _ _ (λ i h. ap (λ (x : ℕ). f i * x) (paired-tab k G (one_at i) B)) ∙ pairing_rows k (tab k G) (tab k B) f
-    ∙ sym (paired-tab k G f B)
 
 module _ (k : ℕ) (f : Row) (B : ℕ → ℕ) where
   abbrev C : ℕ → ℕ

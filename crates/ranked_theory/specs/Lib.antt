@@ -7,8 +7,7 @@ pub mod Layout
 pub mod Recursion
 pub mod Runs
 pub mod RowSteps
-pub mod Levels
 pub mod Leaf
 pub mod Halves
-pub mod Turns
 pub mod Tables
+pub mod Turns

@@ -4,14 +4,13 @@
 --   inverse_is                   it is an inverse
 --   inverse_unique               there is but one
 --   inverse_coprime, inverse_exists    there is one exactly where the first entry and m have no common divisor above 1
---   inverse_of_exponential       that of exp A is exp (0 - A)
-use Rattle.std.specs.Prelude.{◌≡◌, refl, Bool, true, false, cond, List, eqb, length}
+use Rattle.std.specs.Prelude.{◌≡◌, refl, Bool, true, false, cond, List, eqb}
 use Rattle.std.proofs.Common.{sym, ap, ◌∙◌, mod-eq_of_lt, arith, pow_pos}
 use Prim.Native.Nat.{ℕ, ◌*◌, ◌%◌, ◌^◌, ◌<◌, ◌≤◌}
 use Rattle.std.proofs.Math.Nat.{zero-mod}
 use Rattle.definitions.specs.Sums.{tabulate, at}
-use Rattle.definitions.specs.Products.{residues, subset_sum, subset_table, difference_table}
-use Rattle.definitions.specs.Partitions.{composition_sum, exponential_table, unit, IsInverse, shares_divisor}
+use Rattle.definitions.specs.Products.{residues, subset_sum, subset_table}
+use Rattle.definitions.specs.Partitions.{composition_sum, unit, IsInverse, shares_divisor}
 use Rattle.theory.specs.Lists.{length-residues, residues_ext, at-tabulate, tabulate_ext}
 use Rattle.theory.specs.Entries.{below_at, below_residues}
 use Rattle.theory.specs.Divisors.{coprime, reciprocal}
@@ -21,7 +20,7 @@ use Rattle.theory.specs.Product.{tab-mul}
 use Rattle.theory.specs.Composition.{tab-comp}
 use Rattle.theory.specs.Congruence.{red, mul-same, comp-same, same_at}
 use Rattle.theory.specs.Series.{subset_mod}
-use Rattle.theory.specs.Tables.{at-mod, product_comm, product_assoc, product-unit, product_first, sum_of_difference, exponential_of_sum, exponential_of_zeros}
+use Rattle.theory.specs.Tables.{at-mod, product_comm, product_assoc, product-unit, product_first}
 use Rattle.theory.specs.Rows.{inverse_row, row_inverts}
 
 -- ---- by halves
@@ -88,16 +87,3 @@ module _ (n m : ℕ) (A : List ℕ) where
 
   pub inverse_exists : 2 ≤ m → shares_divisor m (at A 0) ≡ false → (I : List ℕ) × IsInverse n m A I
   inverse_exists two h = let r = reciprocal m (at A 0) (omega arith) h in (inverse_of n m r.0 A, inverse_is r.0 two r.1)
-
--- exp A · exp (0 - A) = exp 0 = 1
-pub inverse_of_exponential : (n m : ℕ) → 2 ≤ m → (A Z : List ℕ) → ((S : ℕ) → S < 2 ^ n → at A S < m) → length Z ≡ 2 ^ n
-    → ((S : ℕ) → S < 2 ^ n → at Z S ≡ 0) → IsInverse n m (exponential_table n m A) (exponential_table n m (difference_table n m Z A))
-inverse_of_exponential n m two A Z a l z = record {
-  long = length-residues n m _;
-  below = below_residues n m _ (omega arith);
-  product =
-      product_comm n m (exponential_table n m A) (exponential_table n m (difference_table n m Z A))
-      ∙ sym (exponential_of_sum n m (difference_table n m Z A) A)
-      ∙ ap (exponential_table n m) (sum_of_difference n m Z A l (λ S h. omega (arith, z S h)) a)
-      ∙ exponential_of_zeros n m Z z ∙ unit_table n m two;
-}

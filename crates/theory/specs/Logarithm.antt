@@ -3,14 +3,13 @@
 --   logarithm_is           it is a logarithm; its exponential is E
 --   logarithm_only, logarithm_unique                there is but one
 --   exponential_logarithm, logarithm_exponential    exp (log E) = E and log (exp A) = A
---   logarithm_of_product   log (E · F) = log E + log F
 use Rattle.std.specs.Prelude.{◌≡◌, true, List, length}
 use Rattle.std.proofs.Math.Path.{refl, ap}
-use Rattle.std.proofs.Common.{sym, ap₂, ◌∙◌, arith, pow_pos}
+use Rattle.std.proofs.Common.{sym, ◌∙◌, arith, pow_pos}
 use Prim.Native.Nat.{ℕ, zero, suc, ◌%◌, ◌^◌, ◌<◌}
 use Rattle.std.proofs.Math.Nat.{zero-mod}
 use Rattle.definitions.specs.Sums.{at}
-use Rattle.definitions.specs.Products.{residues, sum_table, subset_table}
+use Rattle.definitions.specs.Products.{residues}
 use Rattle.definitions.specs.Partitions.{composition_sum, exponential_table, all_ones, all_below, IsLogarithm}
 use Rattle.theory.specs.Lists.{length-residues, at-residues, residues_ext, residues_self}
 use Rattle.theory.specs.Entries.{below_at, below_residues, below_positive}
@@ -18,7 +17,7 @@ use Rattle.theory.specs.Semiring.{both}
 use Rattle.theory.specs.Halves.{Table, Row, comp, laws, empty, empty-comp, tab, tab-empty}
 use Rattle.theory.specs.Composition.{composition_empty, tab-comp}
 use Rattle.theory.specs.Congruence.{red, mul-same, same_at}
-use Rattle.theory.specs.Tables.{composition_residues, exponential_of_sum, sum_first}
+use Rattle.theory.specs.Tables.{composition_residues}
 use Rattle.theory.specs.Rows.{logarithm_row}
 use Rattle.theory.specs.Inverse.{comp_inverts, cancel}
 
@@ -79,12 +78,3 @@ module _ (n m : ℕ) where
 
   pub logarithm_unique : (E A B : List ℕ) → IsLogarithm n m E A → IsLogarithm n m E B → A ≡ B
   logarithm_unique E A B a b = logarithm_only E A a ∙ sym (logarithm_only E B b)
-
-  -- exp (A + B) = exp A · exp B
-  pub logarithm_of_product : (E F A B : List ℕ) → IsLogarithm n m E A → IsLogarithm n m F B → IsLogarithm n m (subset_table n m E F) (sum_table n m A B)
-  logarithm_of_product E F A B a b = record {
-    long = length-residues n m _;
-    below = below_residues n m _ (below_positive n m A a.long a.below);
-    first = sum_first n m A B a.first b.first;
-    exponential = exponential_of_sum n m A B ∙ ap₂ (subset_table n m) a.exponential b.exponential;
-  }

@@ -1,4 +1,4 @@
-use Rattle.laws_theory.specs.Theorem.{made, made_in_pad, made_in_pad_with, laws_hold}
+use Rattle.laws_theory.proofs.Theorem.{made, made_in_pad, made_in_pad_with, laws_hold}
 use Rattle.laws.proofs.laws.Goals as goal
 
 pub shape_of-sum : goal.shape_of-sum

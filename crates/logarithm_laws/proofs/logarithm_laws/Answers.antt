@@ -1,5 +1,5 @@
-use Rattle.laws_theory.specs.Theorem.{made, made_in_pad, made_in_pad_with}
-use Rattle.logarithm_laws.specs.Theorem.{lawful}
+use Rattle.laws_theory.proofs.Theorem.{made, made_in_pad, made_in_pad_with}
+use Rattle.logarithm_laws.proofs.Theorem.{lawful}
 use Rattle.logarithm_laws.proofs.logarithm_laws.Goals as goal
 
 pub shape_of-product : goal.shape_of-product

@@ -1,5 +1,5 @@
-use Rattle.laws_theory.specs.Theorem.{made_in_pad}
-use Rattle.projection_laws.specs.Theorem.{lawful}
+use Rattle.laws_theory.proofs.Theorem.{made_in_pad}
+use Rattle.projection_laws.proofs.Theorem.{lawful}
 use Rattle.projection_laws.proofs.projection_law.Goals as goal
 
 pub returns : goal.returns

@@ -1,5 +1,5 @@
 use mathlib.Core.Path.{sym}
-use Rattle.ranked_theory.specs.Tables.{part_fits, part_long, root_ready, root_product}
+use Rattle.ranked_theory.proofs.Tables.{part_fits, part_long, root_ready, root_product}
 use Rattle.ranked.proofs.multiply_rows.Goals as goal
 
 pub slice_bounds-ranked_product-end : goal.slice_bounds-ranked_product-end

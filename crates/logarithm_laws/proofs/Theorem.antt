@@ -7,8 +7,9 @@ use Rattle.definitions.specs.Partitions.{exponential_table}
 use Rattle.definitions.specs.Refusals.{word_if, or_else, first_word, table_word, pad_word, shared_start_word, single_number, logarithm_number, inverse_number}
 use Rattle.theory.specs.Divisors.{coprime}
 use Rattle.theory.specs.Tables.{exponential_first, difference_first, product_first}
-use Rattle.theory.specs.Inverse.{inverse_unique, inverse_of_exponential}
-use Rattle.theory.specs.Logarithm.{logarithm_unique, logarithm_of_product}
+use Rattle.theory.specs.Inverse.{inverse_unique}
+use Rattle.theory.specs.Logarithm.{logarithm_unique}
+use Rattle.theory.proofs.OfExponentials.{inverse_of_exponential, logarithm_of_product}
 use Rattle.checks.specs.Accepted.{InRange, IsTable, table_accepted, start_right}
 use Rattle.laws_theory.specs.Accepting.{number_of_sum, number_of_product, exponential_number_lem, logarithm_number_lem, residues_table, logarithm_table}
 use Rattle.logarithm_laws.specs.Law.{Calls, Run, Factors, LogarithmsAdd, Subtracted, ExponentialInverts, Lawful}

@@ -6,10 +6,11 @@ use mathlib.Core.List.{List, [], ◌∷◌}
 use Rattle.definitions.specs.Products.{subset_table}
 use Rattle.definitions.specs.Boards.{Board, raised_over, fresh_board, Change, number_on, next, run}
 use Rattle.theory.specs.Tables.{product_assoc, product-unit}
-use Rattle.board_theory.specs.Raised.{raised_factor}
+use Rattle.board_theory.proofs.Raised.{raised_factor}
 use Rattle.board_theory.specs.Accepted.{IsBoard, same_number}
 use Rattle.board_theory.specs.Moves.{place, amount, is_move}
-use Rattle.board_theory.specs.Runs.{next_moved, next_refused, next-board, fresh_sound, board_law}
+use Rattle.board_theory.proofs.Runs.{next_moved, next_refused, next-board, fresh_sound}
+use Rattle.board_theory.proofs.Law.{board_law}
 
 module _ (n m : ℕ) where
   -- the same change of two boards, where the first E is D times the second

@@ -5,7 +5,7 @@ use Rattle.definitions.specs.Sums.{sum, at}
 use Rattle.definitions.specs.Products.{subset_table}
 use Rattle.definitions.specs.Projection.{whole_entry}
 use Rattle.definitions.specs.Refusals.{or_else, first_word, row_word, pad_word, projection_number}
-use Rattle.projection_theory.specs.Law.{projection_law}
+use Rattle.projection_theory.proofs.Law.{projection_law}
 use Rattle.checks.specs.Words.{or_else_go, ◌and◌}
 use Rattle.checks.specs.Accepted.{InRange, IsTable, table_accepted, row_accepted, range_panel, range_modulus, entries_length, entries_below, start_right}
 use Rattle.laws_theory.specs.Accepting.{number_of_product, number_of_composition, residues_table}

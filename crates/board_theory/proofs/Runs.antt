@@ -3,15 +3,15 @@
 --   next-board, Sound, fresh_sound  what every change keeps: tables of residues, and E is the exponential of A
 --   product, run-product            and the product of E and I, on any three accepted tables
 --   run_weight                      the weight at a set after a list of changes
---   board_law, fresh_numbers        the law, for every list; none is refused but for its set or its weight
+--   fresh_numbers                   none is refused but for its set or its weight
 --   law_determines                  no other board meets the law
 --   run_more, numbers_more, numbers_length     a list that grows at its end
 use Rattle.std.specs.Prelude.{◌≡◌, Bool, true, false, cond, eqb, length}
 use Rattle.std.proofs.Math.Path.{refl, ap, ap₂}
-use Rattle.std.proofs.Common.{sym, subst, ◌∙◌, mod-eq_of_lt, add-zero, zero-add, pow_pos}
+use Rattle.std.proofs.Common.{sym, subst, ◌∙◌, add-zero, pow_pos}
 use mathlib.Core.List.{List, [], ◌∷◌, ◌++◌, map}
 use Prim.Native.Nat.{ℕ, zero, suc, ◌+◌, ◌-◌, ◌%◌, ◌^◌, ◌<◌}
-use Rattle.std.proofs.Math.Nat.{mod-add-mod, zero-mod}
+use Rattle.std.proofs.Math.Nat.{zero-mod}
 use native.Mathlib.Omega.{arith}
 use Rattle.definitions.specs.Sums.{tabulate, at}
 use Rattle.definitions.specs.Products.{residues, subset_table}
@@ -21,12 +21,12 @@ use Rattle.definitions.specs.Boards.{Board, added_at, raised_over, fresh_board, 
 use Rattle.definitions.specs.Boards.{Change, adds, takes, number_on, changed, next, run, run_numbers, adds_at, takes_at, total, BoardLaw}
 use Rattle.theory.specs.Lists.{at-tabulate, tabulate_ext, tabulate_self}
 use Rattle.theory.specs.Entries.{at_below}
-use Rattle.theory.specs.Remainders.{mod-add, mod-sub}
+use Rattle.theory.specs.Remainders.{mod-add}
 use Rattle.theory.specs.Tables.{product-unit}
 use Rattle.theory.specs.Inverse.{unit_table, inverse_unique}
-use Rattle.checks.specs.Accepted.{InRange, IsTable, table_accepts, table_accepted}
+use Rattle.checks.specs.Accepted.{InRange, IsTable, table_accepted}
 use Rattle.laws_theory.specs.Accepting.{residues_table}
-use Rattle.board_theory.specs.Raised.{exponential_raised, exponential_fresh, product_kept, added_at_lem, added_first, lacking_back}
+use Rattle.board_theory.proofs.Raised.{exponential_raised, exponential_fresh, product_kept, added_at_lem, added_first, lacking_back}
 use Rattle.board_theory.specs.Accepted.{IsBoard, change_accepted, own_number, own_number_lem}
 use Rattle.board_theory.specs.Moves.{table_by_table, moved, place, amount, opposite, move, changed_is, IsMove, is_move}
 
@@ -142,7 +142,7 @@ module _ (n m : ℕ) where
 
   -- ---- lists
 
-  run_sound : (b : Board) (xs : List Change) → Sound b → Sound (run n m b xs)
+  pub run_sound : (b : Board) (xs : List Change) → Sound b → Sound (run n m b xs)
   unfolding run
   run_sound b [] h = h
   run_sound b (x ∷ xs) h = run_sound (next n m b x) xs (next_sound b x h)
@@ -168,7 +168,7 @@ module _ (n m : ℕ) where
     }
 
     -- I is the inverse of E
-    run_inverse : (xs : List Change) → IsInverse n m (run n m (fresh_board n) xs).exponential (run n m (fresh_board n) xs).inverse
+    pub run_inverse : (xs : List Change) → IsInverse n m (run n m (fresh_board n) xs).exponential (run n m (fresh_board n) xs).inverse
     run_inverse xs =
         let i : IsTable n m (run n m (fresh_board n) xs).inverse = (run_sound (fresh_board n) xs fresh_sound).board.inverse in
         record {
@@ -176,28 +176,6 @@ module _ (n m : ℕ) where
           below = at_below m _ (λ S h. i.below S);
           product = run-product (fresh_board n) xs fresh_sound.board
               ∙ product-unit n m (tabulate (2 ^ n) unit) fresh_unit.size (λ S h. fresh_unit.below S);
-        }
-
-    -- the law, for every list of changes
-    pub board_law : (xs : List Change) → BoardLaw n m xs (run n m (fresh_board n) xs)
-    board_law xs =
-        let s = run_sound (fresh_board n) xs fresh_sound in
-        record {
-          weights_accepted = table_accepts n m _ r s.board.weights;
-          exponential_accepted = table_accepts n m _ r s.board.exponential;
-          inverse_accepted = table_accepts n m _ r s.board.inverse;
-          first = s.first;
-          exponential_is = sym s.is;
-          inverse_is = run_inverse xs;
-          weight_is = λ S h.
-              let W : ℕ = at (run n m (fresh_board n) xs).weights S in
-              let t : ℕ = total n m (takes_at S) (fresh_board n) xs in
-              let a : ℕ = total n m (adds_at S) (fresh_board n) xs in
-              let same : (t + W) % m ≡ a % m =
-              ap (λ (k : ℕ). k % m) (let e : t + W ≡ W + t = omega arith in e)
-              ∙ run_weight S h (fresh_board n) xs ∙ ap (λ (k : ℕ). (k + a) % m) (at-tabulate (2 ^ n) (λ S. 0) S h) ∙ ap (λ (k : ℕ). k % m) (zero-add a) in
-              sym (mod-eq_of_lt (s.board.weights.below S)) ∙ sym (mod-sub m (omega (arith, r.lowest)) W t)
-              ∙ ap (λ (k : ℕ). (k + (m - t % m)) % m) same ∙ mod-add-mod a m (m - t % m);
         }
 
     -- only this board meets it

@@ -10,7 +10,8 @@ use Rattle.definitions.specs.Projection.{one_at, whole_entry, projection_entry, 
 use Rattle.theory.specs.Sums.{sum-mod}
 use Rattle.theory.specs.Remainders.{mod-mul}
 use Rattle.theory.specs.Lists.{at-tabulate}
-use Rattle.projection_theory.specs.Pairing.{paired, paired_rows, entry_paired, entry_is}
+use Rattle.projection_theory.specs.Pairing.{paired, entry_paired, entry_is}
+use Rattle.projection_theory.proofs.Halves.{paired_rows}
 
 pub projection_law : (n m : ℕ) (A B f : List ℕ)
     → sum (n + 1) (λ i. at f i * at (projection_row n m A B) i) % m ≡ whole_entry n (subset_table n m A (composition_table n m f B))

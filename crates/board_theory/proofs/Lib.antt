@@ -1,0 +1,4 @@
+pub mod Books
+pub mod Law
+pub mod Raised
+pub mod Runs

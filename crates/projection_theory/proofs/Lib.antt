@@ -1,0 +1,3 @@
+pub mod Halves
+pub mod Law
+pub mod Turns

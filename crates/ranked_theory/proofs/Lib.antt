@@ -1,0 +1,3 @@
+pub mod Levels
+pub mod Tables
+pub mod Turns
