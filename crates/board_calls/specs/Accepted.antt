@@ -15,7 +15,7 @@ use Rattle.residues.specs.declared.Modulus.{Modulus}
 use Rattle.checks.specs.Answers.{IsChecked, accepted, refused, word_kept}
 use Rattle.checks.specs.declared.Checked.{Checked}
 use Rattle.checks.specs.declared.Checked.TheVariants.{Accepted, Refused}
-use Rattle.board_theory.proofs.Raised.{lowered_raised}
+use Rattle.board_theory.specs.Raised.{lowered_raised}
 use Rattle.board_theory.specs.Accepted.{IsChange, IsRoom, change_accepted, fresh_accepted}
 use Rattle.board_tables.specs.Ready.{BoardReady}
 

@@ -9,7 +9,7 @@ use Rattle.definitions.specs.Refusals.{after}
 use Rattle.definitions.specs.Sums.{at}
 use Rattle.definitions.specs.Boards.{Board, board, added_at, raised_over, lowered_over, lacking, fresh_board, fresh_number, change_number, board_after, Change, number_on, changed, next, run, run_numbers}
 use Rattle.board_theory.specs.Moves.{table_by_table}
-use Rattle.board_theory.proofs.Runs.{run_more, numbers_more, numbers_length}
+use Rattle.board_theory.specs.Runs.{run_more, numbers_more, numbers_length}
 use Rattle.board_laws.specs.Law.{change_of, changes_of, Calls, ChangeMade, written, ChangesMade, Run}
 
 -- table by table

@@ -3,7 +3,7 @@ use Rattle.std.proofs.Common.{sym, ap, subst, ◌∙◌}
 use Rattle.std.specs.Prelude.{ℕ}
 use Rattle.definitions.specs.Boards.{fresh_board, board_after, run, BoardLaw}
 use Rattle.board_theory.specs.Accepted.{fresh_accepted}
-use Rattle.board_theory.proofs.Law.{board_law}
+use Rattle.board_theory.proofs.Runs.{board_law}
 use Rattle.board_laws.specs.Law.{Calls, Run, Lawful}
 
 pub lawful : (n m : ℕ) (c : Calls) → Run n m c → Lawful n m c

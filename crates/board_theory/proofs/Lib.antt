@@ -1,4 +1,3 @@
 pub mod Books
-pub mod Law
 pub mod Raised
 pub mod Runs

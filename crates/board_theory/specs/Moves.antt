@@ -4,7 +4,7 @@
 --   place, amount, opposite, IsMove, is_move     its set and its two weights
 use Rattle.std.specs.Prelude.{◌≡◌, refl, List, ℕ, ◌+◌, ◌%◌, ◌^◌, ◌<◌}
 use Rattle.definitions.specs.Boards.{Board, board, added_at, raised_over, lacking, Change, adds, takes, number_on, changed}
-use Rattle.board_theory.proofs.Raised.{lowered_raised, lacking-whole, with_lacking}
+use Rattle.board_theory.specs.Raised.{lowered_raised, lacking-whole, with_lacking}
 use Rattle.board_theory.specs.Accepted.{change_accepted}
 
 pub table_by_table : {A B E F I J : List ℕ} → A ≡ B → E ≡ F → I ≡ J → ◌≡◌ {A = Board} (board A E I) (board B F J)

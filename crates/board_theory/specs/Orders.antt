@@ -8,10 +8,10 @@ use Rattle.std.proofs.Common.{sym, ◌∙◌}
 use mathlib.Core.List.{List, [], ◌∷◌, Permᴰ}
 use Rattle.definitions.specs.Refusals.{AcceptedTable}
 use Rattle.definitions.specs.Boards.{Board, board_add, board_take, lacking, change_number, Change, adds, takes, number_on, next, run}
-use Rattle.board_theory.proofs.Raised.{added_comm, raised_comm, added_twice, raised_twice, added_nothing, raised_nothing, raised_lowered}
+use Rattle.board_theory.specs.Raised.{added_comm, raised_comm, added_twice, raised_twice, added_nothing, raised_nothing, raised_lowered}
 use Rattle.board_theory.specs.Accepted.{IsBoard, accepted_board, change_accepted, same_number}
 use Rattle.board_theory.specs.Moves.{table_by_table, moved, place, amount, opposite, move, IsMove, is_move}
-use Rattle.board_theory.proofs.Runs.{next_moved, next_refused, next-board}
+use Rattle.board_theory.specs.Runs.{next_moved, next_refused, next-board}
 
 module _ (n m : ℕ) where
   -- two changes that b accepts: the first does not refuse the second
