@@ -79,10 +79,12 @@ build_library() {
 
 # Builds a program: build_program LOG NAME
 build_program() {
+    local log
+    log=$(realpath -m "$1")
     # shellcheck disable=SC2046
     prove "$1" $(sed -n "s/^$2: //p" crates.txt)
     tell "proving the program $2"
-    (cd "crates/$2" && quietly "$1" rt run </dev/null)
+    (cd "crates/$2" && quietly "$log" rt run </dev/null)
     mkdir -p target/bin
     cp "crates/$2/out/$2" "target/bin/$2"
 }
