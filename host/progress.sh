@@ -63,6 +63,7 @@ prove() {
     local log=$1 crates
     shift
     mapfile -t crates < <(crates_for "$@")
+    [ ${#crates[@]} -ge $# ] && [ $# -gt 0 ] || { echo "crates.txt does not list: $*"; exit 1; }
     : >"$log"
     # shellcheck disable=SC2016
     printf '%s\n' "${crates[@]}" | xargs -P "$(nproc)" -I{} bash -c '
