@@ -92,7 +92,6 @@ class Turn:
         self.left = []
         self.helpers = {}
         self.rec = False
-        self.alone = False
         self.gone = set()
         self.kept = {}
 
@@ -211,10 +210,10 @@ class Turn:
             return f"(goal.at.{goal} {'t ' * self.rec}c).{self.newplace[p]}"
 
         text = PATH.sub(one, text)
-        for kind, names in (("requires", self.clauses(self.own, "requires")),):
-            if len(names) > 1:
-                for m in list(re.finditer(r"let (\S+) = c\.requires in", text)):
-                    text = re.sub(rf"(?<![\w.-])({re.escape(m[1])})((?:\.\d)+)(?!\d)", lambda x: clause_of(names, x), text)
+        names = self.clauses(self.own, "requires")
+        if len(names) > 1:
+            for m in list(re.finditer(r"let (\S+) = c\.requires in", text)):
+                text = re.sub(rf"(?<![\w.-])({re.escape(m[1])})((?:\.\d)+)(?!\d)", lambda x: clause_of(names, x), text)
         # a test's fact stands beside its value now
         text = re.sub(r"\(eqb-(?:true|false) _ _ (c\.[^\s()]+)\.(true|false)-raw\)", r"\1.\2", text)
         text = re.sub(r"eqb-(?:true|false) _ _ (c\.[^\s()]+)\.(true|false)-raw", r"\1.\2", text)
@@ -328,7 +327,7 @@ def as_record(text, names):
         if t.startswith(("record", "search", "omega", "grind", "elim", "rw", "simp", "λ", "absurd")):
             return text
         return head + f" let all = {t} in record {{ " + "; ".join(f"{n} = all{'.1' * k}{'.0' if k < len(names) - 1 else ''}" for k, n in enumerate(names)) + " }"
-    inner = "; ".join(f"{n} = {p}" for n, p in zip(names, parts) if p != "search rules" or True)
+    inner = "; ".join(f"{n} = {p}" for n, p in zip(names, parts))
     return head + " record { " + inner + " }"
 
 

@@ -47,10 +47,6 @@ def tight(line):
         line = new
 
 
-def back_of(names):
-    return set(names.values())
-
-
 # fields whose new name a function has
 OTHER = {
     "binomial-number": "number_of_binomial",
@@ -187,13 +183,13 @@ def main():
         cited = {x.strip() for m in re.finditer(r"ghost use [^;{]*\{([^}]*)\}", t) for x in m[1].split(",")}
         for m in set(re.findall(r"\b([a-z_0-9]+)(?=: )|let (?:mut )?([a-z_0-9]+)", t)):
             w = m[0] or m[1]
-            if w in cited and w in back_of(names):
+            if w in cited and w in set(names.values()):
                 print("hides:", p, w)
     # a new name that a file had before, as something else
     back = collections.defaultdict(set)
     for n, new in names.items():
         back[new].add(n)
-    for p, t in list(texts.items()) + [(p, "") for p in []]:
+    for p, t in texts.items():
         words = set(WORD.findall(code(t)))
         for w in words & set(back):
             if w not in declared and back[w] & words:
