@@ -1,11 +1,11 @@
 -- Euclid's algorithm for m and a: what the pair of remainders keeps, from the first pair to the last.
-use Rattle.std.proofs.Common.{◌≡◌, ℕ, ◌/◌, ◌%◌, ◌<◌, ap, ◌∙◌, subst, mod-lt, mod-eq_of_lt, arith}
+use Rattle.std.proofs.Common.{◌≡◌, ℕ, ◌/◌, ◌%◌, ◌<◌, ap, ◌∙◌, subst, mod-lt, mod-eq_of_lt, arith, Ok, Err}
 use native.Mathlib.Nat.{mod-mod, div-lt_self}
 use Rattle.theory.specs.Tests.{zero_is_not_one}
 use Rattle.theory.specs.Divisors.{Euclid, euclid_first, euclid_next, euclid_last}
 use Rattle.residues.specs.Moduli.{Below}
 use Rattle.residues.specs.Reciprocals.{IsReciprocal, IsCommonDivisor, ReciprocalIs, InRange, Next}
-use Rattle.residues.specs.declared.Reciprocal.TheVariants as answer
+use Rattle.residues.specs.declared.CommonDivisor.{CommonDivisor}
 use Rattle.residues.specs.declared.Remainders.{Remainders}
 
 -- the pair is in range, and one that Euclid's algorithm comes to
@@ -46,7 +46,7 @@ next {m} {a} {pair} {r} b h n =
 
 -- the last pair: its smaller remainder is 1 or 0
 pub is_reciprocal : {m a : ℕ} {pair : Remainders} → Bezout m a pair → pair.smaller ≡ 1 →
-    ReciprocalIs m a (answer.Of pair.of_smaller)
+    ReciprocalIs m a (Ok pair.of_smaller)
 is_reciprocal {m} {a} {pair} b e =
     let above : 1 < m = omega arith in
     let it : IsReciprocal m a pair.of_smaller =
@@ -60,12 +60,12 @@ is_reciprocal {m} {a} {pair} b e =
     }
 
 pub is_common : {m a : ℕ} {pair : Remainders} → Bezout m a pair → pair.smaller ≡ 0 →
-    ReciprocalIs m a (answer.CommonDivisor pair.larger)
+    ReciprocalIs m a (Err (record { 0 = pair.larger }))
 is_common {m} {a} {pair} b e =
     let d = pair.larger in
     let both = euclid_last b.euclid e in
     let it : IsCommonDivisor m a d = record { above = b.above; of_modulus = both.0; of_number = both.1 } in
     record {
       reciprocal = λ u q. absurd (zero_is_not_one (cc));
-      common = λ x q. subst (IsCommonDivisor m a) (cc) it;
+      common = λ x q. let same : d ≡ x.0 = cc in subst (IsCommonDivisor m a) same it;
     }

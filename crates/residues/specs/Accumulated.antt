@@ -6,7 +6,6 @@ use Rattle.std.proofs.Math.Path.{ap₂}
 use Rattle.definitions.specs.Sums.{sum}
 use Rattle.residues.specs.Moduli.{Residue}
 use Rattle.residues.specs.declared.Accumulator.{Accumulator}
-use Rattle.residues.specs.declared.Wide.{Wide}
 
 -- the number that it holds: the sum itself, not up to multiples of a modulus
 unfoldable pub held : Accumulator → ℕ
@@ -28,11 +27,6 @@ pub record Started (acc : Accumulator) : Type 0 where
 pub record Added (acc : Accumulator) (x : ℕ) (r : Accumulator) : Type 0 where
   pub counted : r.carries ≤ suc acc.carries
   pub sum : held r ≡ held acc + x
-
--- r is the sum of two numbers of 64 bits
-pub record Summed (a b : ℕ) (r : Wide) : Type 0 where
-  pub once : r.carry ≤ 1
-  pub sum : r.low + 2 ^ 64 * r.carry ≡ a + b
 
 -- it holds the sum of so many terms
 pub record Holds (term : ℕ → ℕ) (count : ℕ) (acc : Accumulator) : Type 0 where

@@ -1,3 +1,4 @@
+pub mod Values
 pub mod Moduli
 pub mod Accumulated
 pub mod Reciprocals

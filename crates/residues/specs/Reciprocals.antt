@@ -1,11 +1,10 @@
 -- Reciprocals modulo m, and the common divisors that leave none.
-use Rattle.std.specs.Prelude.{◌≡◌, ℕ, ◌+◌, ◌-◌, ◌*◌, ◌/◌, ◌%◌, ◌<◌, ◌≤◌, true, false}
+use Rattle.std.specs.Prelude.{◌≡◌, ℕ, ◌+◌, ◌-◌, ◌*◌, ◌/◌, ◌%◌, ◌<◌, ◌≤◌, true, false, Result, Ok, Err}
 use Rattle.std.proofs.Common.{ap, ◌∙◌, mul_comm}
 use Rattle.definitions.specs.Partitions.{shares_divisor}
 use Rattle.theory.specs.Divisors.{shared, coprime}
-use Rattle.residues.specs.Moduli.{Residue}
-use Rattle.residues.specs.declared.Reciprocal.{Reciprocal}
-use Rattle.residues.specs.declared.Reciprocal.TheVariants as answer
+use Rattle.residues.specs.Values.{Residue}
+use Rattle.residues.specs.declared.CommonDivisor.{CommonDivisor}
 use Rattle.residues.specs.declared.Remainders.{Remainders}
 
 -- u is the residue that times a is 1
@@ -20,9 +19,9 @@ pub record IsCommonDivisor (m a d : ℕ) : Type 0 where
   pub of_number : a % d ≡ 0
 
 -- what `Modulus::reciprocal` answers for a
-pub record ReciprocalIs (m a : ℕ) (r : Reciprocal) : Type 0 where
-  pub reciprocal : (u : ℕ) → r ≡ answer.Of u → IsReciprocal m a u
-  pub common : (d : ℕ) → r ≡ answer.CommonDivisor d → IsCommonDivisor m a d
+pub record ReciprocalIs (m a : ℕ) (r : Result ℕ CommonDivisor) : Type 0 where
+  pub reciprocal : (u : ℕ) → r ≡ Ok u → IsReciprocal m a u
+  pub common : (d : CommonDivisor) → r ≡ Err d → IsCommonDivisor m a d.0
 
 -- the ranges of Euclid's remainders and of their coefficients
 pub record InRange (m : ℕ) (pair : Remainders) : Type 0 where

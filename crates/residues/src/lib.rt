@@ -4,9 +4,9 @@
 #![tactic(auto)]
 
 ghost use Rattle.std.specs.Prelude.{◌≡◌, ◌+◌, ◌-◌, ◌*◌, ◌<◌};
-ghost use Rattle.residues.specs.Moduli.{modulus_of, Valid, Below, Residue, Back};
-ghost use Rattle.residues.specs.Accumulated.{held, Sound, Started, Added, Summed};
-ghost use Rattle.residues.specs.Reciprocals.{ReciprocalIs, InRange, Next};
+ghost use Rattle.residues.specs.Values.{IsModulus, Below, Residue, Back};
+
+use refusals::Refusal;
 
 // Only `Modulus::new` makes one.
 #[derive(Clone, Copy)]
@@ -14,13 +14,7 @@ pub struct Modulus {
     value: u32,
     // the residue of 2 to the 64
     two_64: u64,
-}
-
-#[derive(Clone, Copy)]
-pub enum ModulusAnswer {
-    Modulus(Modulus),
-    // 01's number for a refused modulus
-    Refused(u32),
+    ghost valid: { IsModulus value two_64 },
 }
 
 // A sum of products: the lowest 64 bits, and how often they were carried over.
@@ -30,19 +24,9 @@ pub struct Accumulator {
     carries: u32,
 }
 
-// A sum of two numbers of 64 bits.
+// Why a number has no reciprocal: a divisor above 1 of the number and of the modulus.
 #[derive(Clone, Copy)]
-struct Wide {
-    low: u64,
-    carry: u32,
-}
-
-#[derive(Clone, Copy)]
-pub enum Reciprocal {
-    Of(u32),
-    // a divisor above 1 of the number and of the modulus
-    CommonDivisor(u32),
-}
+pub struct CommonDivisor(pub u32);
 
 // Two remainders of Euclid's algorithm for m and a, and for each a residue which times a gives it modulo m.
 #[derive(Clone, Copy)]
@@ -54,21 +38,24 @@ struct Remainders {
 }
 
 impl Modulus {
+    ghost use Rattle.residues.specs.Moduli.{IsModulusOf};
+    ghost use Rattle.residues.specs.Reciprocals.{ReciprocalIs};
+
     pub const LOWEST: u32 = 2;
 
     pub const LARGEST: u32 = 4294967295;
 
-    pub fn new(m: u32) -> ModulusAnswer
-        ensures { result ≡ modulus_of m }
+    pub fn new(m: u32) -> Result<Modulus, Refusal>
+        ensures { IsModulusOf m result }
     {
         if m < Modulus::LOWEST {
-            return ModulusAnswer::Refused(2);
+            return Err(Refusal::Modulus);
         }
         if Modulus::LARGEST < m {
-            return ModulusAnswer::Refused(2);
+            return Err(Refusal::Modulus);
         }
         let wide = m as u64;
-        ModulusAnswer::Modulus(Modulus {
+        Ok(Modulus {
             value: m,
             two_64: (u64::MAX % wide + 1) % wide,
         })
@@ -81,7 +68,6 @@ impl Modulus {
     }
 
     pub fn reduce(self, x: u64) -> u32
-        requires { Valid self }
         ensures { Residue self.value x result }
     {
         let m = self.value as u64;
@@ -90,8 +76,7 @@ impl Modulus {
 
     // The sum is compared before it is formed, so that it fits under every modulus of 32 bits.
     pub fn add(self, a: u32, b: u32) -> u32
-        requires valid { Valid self }
-        requires below { Below self.value a b }
+        requires { Below self.value a b }
         ensures { Residue self.value (a + b) result }
     {
         let lacking = self.value - b;
@@ -107,8 +92,7 @@ impl Modulus {
 
     // The one choice is made beside the difference, not behind it.
     pub fn subtract(self, a: u32, b: u32) -> u32
-        requires valid { Valid self }
-        requires below { Below self.value a b }
+        requires { Below self.value a b }
         ensures { Residue self.value (a + (self.value - b)) result }
     {
         let up = (a as u64) + (self.back(a, b) as u64);
@@ -116,8 +100,7 @@ impl Modulus {
     }
 
     pub fn multiply(self, a: u32, b: u32) -> u32
-        requires valid { Valid self }
-        requires below { Below self.value a b }
+        requires { Below self.value a b }
         ensures { Residue self.value (a * b) result }
     {
         let product = (a as u64) * (b as u64);
@@ -125,9 +108,8 @@ impl Modulus {
     }
 
     // The residue that times a is 1, or why there is none: Euclid's algorithm.
-    pub fn reciprocal(self, a: u32) -> Reciprocal
-        requires valid { Valid self }
-        requires a_lt_value { a < self.value }
+    pub fn reciprocal(self, a: u32) -> Result<u32, CommonDivisor>
+        requires { a < self.value }
         ensures { ReciprocalIs self.value a result }
     {
         let mut pair = Remainders {
@@ -140,17 +122,18 @@ impl Modulus {
             pair = pair.next(self);
         }
         if pair.smaller == 1 {
-            Reciprocal::Of(pair.of_smaller)
+            Ok(pair.of_smaller)
         } else {
-            Reciprocal::CommonDivisor(pair.larger)
+            Err(CommonDivisor(pair.larger))
         }
     }
 }
 
 impl Remainders {
+    ghost use Rattle.residues.specs.Reciprocals.{InRange, Next};
+
     // The quotient is below m, since the smaller remainder is above 1.
     fn next(self, modulus: Modulus) -> Remainders
-        requires valid { Valid modulus }
         requires lt_smaller { 1 < self.smaller }
         requires in_range { InRange modulus.value self }
         ensures { Next modulus.value self result }
@@ -166,21 +149,9 @@ impl Remainders {
     }
 }
 
-impl Wide {
-    // What is left of a sum that was carried over is below either number.
-    fn sum(a: u64, b: u64) -> Wide
-        ensures { Summed a b result }
-    {
-        let low = std::num::wrapping_add_u64(a, b);
-        if low < b {
-            Wide { low: low, carry: 1 }
-        } else {
-            Wide { low: low, carry: 0 }
-        }
-    }
-}
-
 impl Accumulator {
+    ghost use Rattle.residues.specs.Accumulated.{held, Sound, Started, Added};
+
     pub fn start() -> Accumulator
         ensures { Started result }
     {
@@ -192,24 +163,23 @@ impl Accumulator {
         ensures { Added self (a * b) result }
     {
         let term = (a as u64) * (b as u64);
-        let sum = Wide::sum(self.low, term);
+        let (low, carried) = self.low.overflowing_add(term);
         Accumulator {
-            low: sum.low,
-            carries: self.carries + sum.carry,
+            low,
+            carries: self.carries + carried as u32,
         }
     }
 
     // Each carry counts as the residue of 2 to the 64. A last one hardly ever comes, so that the branch is foreseen.
     pub fn residue(self, modulus: Modulus) -> u32
-        requires { Valid modulus }
         ensures { Residue modulus.value (held self) result }
     {
         let more = (self.carries as u64) * modulus.two_64;
-        let sum = Wide::sum(self.low, more);
-        if sum.carry == 0 {
-            modulus.reduce(sum.low)
+        let (low, carried) = self.low.overflowing_add(more);
+        if carried {
+            modulus.reduce(low + modulus.two_64)
         } else {
-            modulus.reduce(sum.low + modulus.two_64)
+            modulus.reduce(low)
         }
     }
 }
