@@ -1,19 +1,19 @@
--- How a call ends: the pad that it worked in, and what it answers for an `Accepted` or a `Refused`.
---   Usable, used_in, part_long    a call lends the part of its pad that it may use, or the front of that part, to a worker; Lent: of W
+-- How a call ends: the pad that it worked in, and what it answers for an `Ok` or an `Err`.
+--   Usable, used_in, part_long, lent_for    a call lends the part of its pad that it may use, or the front of that part, to a worker; Lent: of W
 --   table_fits                    a table is such a front
 --   clear_fits, front_cleared     whatever the worker left there, clearing the part makes the pad what the call promises (same-cleared)
 --   accepted_call, refused_call   number, result and pad; refused_result without the pad
-use Rattle.std.specs.Prelude.{◌≡◌, List, ◌++◌, ℕ, ◌^◌, ◌≤◌, length, take, drop}
+use Rattle.std.specs.Prelude.{◌≡◌, List, ◌++◌, ℕ, ◌^◌, ◌≤◌, length, take, drop, Result, Ok, Err}
 use Rattle.std.proofs.Common.{sym, ap, ◌∙◌, arith, length-take-le}
 use Rattle.std.proofs.Math.Seq.{length_front}
 use Rattle.definitions.specs.Limits.{pad_length}
 use Rattle.definitions.specs.Sums.{tabulate}
 use Rattle.definitions.specs.Refusals.{after, cleared, pad_after}
 use Rattle.theory.specs.Parts.{behind_front}
+use Rattle.refusals.specs.Words.{word}
+use Rattle.refusals.specs.declared.Refusal.{Refusal}
 use Rattle.residues.specs.declared.Modulus.{Modulus}
 use Rattle.checks.specs.Answers.{IsChecked, accepted, refused, word_kept}
-use Rattle.checks.specs.declared.Checked.{Checked}
-use Rattle.checks.specs.declared.Checked.TheVariants.{Accepted, Refused}
 
 -- ---- the pad
 
@@ -25,6 +25,9 @@ pub record Usable (most used : ℕ) (pad : List ℕ) : Type 0 where
 -- 01's W entries, for n controls
 abbrev pub Lent : ℕ → ℕ → List ℕ → Type 0
 Lent n used pad = Usable (pad_length n) used pad
+
+pub lent_for : {most used : ℕ} {pad : List ℕ} → used ≡ most → most ≤ length pad → Usable most used pad
+lent_for e room = record { used_is = e; room = room }
 
 pub table_fits : (n : ℕ) → 2 ^ n ≤ pad_length n
 unfolding pad_length
@@ -55,15 +58,15 @@ module _ {most used : ℕ} {pad : List ℕ} (h : Usable most used pad) where
 
 -- ---- the answer
 
-module _ {m k : ℕ} {answer : Checked} (h : IsChecked m k answer) where
+module _ {m k : ℕ} {answer : Result Modulus Refusal} (h : IsChecked m k answer) where
   -- a worker made the table under the modulus' value
-  module _ {modulus : Modulus} (e : answer ≡ Accepted modulus) (table : ℕ → List ℕ) {new : List ℕ} (made : new ≡ table modulus.value) where
+  module _ {modulus : Modulus} (e : answer ≡ Ok modulus) (table : ℕ → List ℕ) {new : List ℕ} (made : new ≡ table modulus.value) where
     pub accepted_call : (n : ℕ) (pad : List ℕ) {last : List ℕ} → last ≡ pad_after 0 n pad → (0 ≡ k) × ((new ≡ table m) × (last ≡ pad_after 0 n pad))
     accepted_call n pad end = (sym (accepted h e), (made ∙ ap table (h.stands modulus e).value_is, end))
 
-  module _ {w : ℕ} (e : answer ≡ Refused w) (new old : List ℕ) where
-    pub refused_result : (w ≡ k) × (old ≡ after w new old)
+  module _ {refusal : Refusal} (e : answer ≡ Err refusal) (new old : List ℕ) where
+    pub refused_result : (word refusal ≡ k) × (old ≡ after (word refusal) new old)
     refused_result = (refused h e, word_kept h e new old)
 
-    pub refused_call : (n : ℕ) (pad : List ℕ) → (w ≡ k) × ((old ≡ after w new old) × (pad ≡ pad_after w n pad))
+    pub refused_call : (n : ℕ) (pad : List ℕ) → (word refusal ≡ k) × ((old ≡ after (word refusal) new old) × (pad ≡ pad_after (word refusal) n pad))
     refused_call n pad = (refused_result.0, (refused_result.1, word_kept h e (cleared (pad_length n) pad) pad))

@@ -34,9 +34,5 @@ pub fn clear(long: usize, workspace: &mut [u32])
     requires { long ≤ length workspace.old }
     ensures { workspace.new ≡ cleared long workspace.old }
 {
-    let mut i = 0;
-    while i < long {
-        workspace[i] = 0;
-        i += 1;
-    }
+    workspace[..long].fill(0);
 }

@@ -7,11 +7,11 @@ ghost use Rattle.definitions.specs.Sets.{size};
 ghost use Rattle.sets.specs.Sizes.{code_limit};
 
 // 01's code of a set, the source's h.
-#[derive(Clone, Copy)]
+#[derive(Clone, Copy, PartialEq, Eq, PartialOrd, Ord)]
 pub struct SetCode(pub usize);
 
 // 01's size of a set, the source's k.
-#[derive(Clone, Copy)]
+#[derive(Clone, Copy, PartialEq, Eq, PartialOrd, Ord)]
 pub struct SetSize(pub usize);
 
 impl SetCode {
@@ -20,7 +20,7 @@ impl SetCode {
         requires { self.0 < code_limit }
         ensures { result.0 ≡ size self.0 }
     {
-        let ones = usize::count_ones(self.0) as usize;
+        let ones = self.0.count_ones() as usize;
         SetSize(ones)
     }
 
@@ -32,6 +32,6 @@ impl SetCode {
         ensures { result.0 ≡ size (self.0 + 1) }
     {
         let next = self.0 + 1;
-        SetSize(own.0 + 1 - (usize::trailing_zeros(next) as usize))
+        SetSize(own.0 + 1 - (next.trailing_zeros() as usize))
     }
 }
