@@ -4,7 +4,6 @@
 
 ghost use Rattle.std.specs.Prelude.{◌≡◌, ◌^◌, ◌≤◌, length};
 ghost use Rattle.definitions.specs.Products.{subset_table};
-ghost use Rattle.residues.specs.Moduli.{Valid};
 ghost use Rattle.ranked_theory.specs.Recursion.{Ready, Worked, Room, LaidOut, LaidBoth, BothReady, RowsMultiplied, ReadOff, ProductOfBoth, TablesReady};
 
 use ranked_rows::{add_lower, multiply_row, power_of_two, row_width, subtract_lower};
@@ -14,8 +13,7 @@ use sets::{SetCode, SetSize};
 
 // The recursion on 2^q rows whose codes share d = |h0| controls above the low q.
 fn ranked_product(n: usize, modulus: Modulus, q: usize, d: SetSize, rows: &mut [u32])
-    requires valid { Valid modulus }
-    requires ready { Ready modulus.value n q d.0 rows.old }
+    requires { Ready modulus.value n q d.0 rows.old }
     ensures { Worked modulus.value n q d.0 rows.old rows.new }
 {
     if q == 0 {
@@ -33,8 +31,7 @@ fn ranked_product(n: usize, modulus: Modulus, q: usize, d: SetSize, rows: &mut [
 
 // Works the rows in front, in which both factors are laid out: from then on they hold the product.
 pub fn multiply_rows(n: usize, modulus: Modulus, rows: &mut [u32])
-    requires valid { Valid modulus }
-    requires both_ready { BothReady modulus.value n rows.old }
+    requires { BothReady modulus.value n rows.old }
     ensures { RowsMultiplied modulus.value n rows.old rows.new }
 {
     let used = rows_length(n);
@@ -43,51 +40,43 @@ pub fn multiply_rows(n: usize, modulus: Modulus, rows: &mut [u32])
 
 // Lays one factor out in the rows, 0 the left one and 1 the right one. Nothing else in them changes, so that the two may be laid out
 // one after the other.
+#[tactic(auto, using(ranked_theory::specs::Layout::place_in))]
 pub fn lay_out(n: usize, side: usize, a: &[u32], rows: &mut [u32])
     requires room { Room n a.now rows.old }
     requires side_bound { side ≤ 1 }
     ensures { LaidOut n side a.now rows.old rows.new }
 {
-    let mut h = 0;
-    while h < a.len() {
-        let to = place(n, side, SetCode(h));
-        rows[to] = a[h];
-        h += 1;
+    for h in 0..a.len() {
+        rows[place(n, side, SetCode(h))] = a[h];
     }
 }
 
-// Lays both factors out in one pass over the rows, whatever they held.
-fn lay_out_both(n: usize, a: &[u32], b: &[u32], rows: &mut [u32])
+// Lays both factors out in one pass over the rows, whatever they held; two passes of `lay_out` would be slower.
+#[tactic(auto, using(ranked_theory::specs::Layout::place_in))]
+pub fn lay_out_both(n: usize, a: &[u32], b: &[u32], rows: &mut [u32])
     requires room { Room n a.now rows.old }
     requires room_2 { Room n b.now rows.old }
     ensures { LaidBoth n a.now b.now rows.new }
 {
-    let mut h = 0;
-    while h < a.len() {
-        let left = place(n, 0, SetCode(h));
-        let right = place(n, 1, SetCode(h));
-        rows[left] = a[h];
-        rows[right] = b[h];
-        h += 1;
+    for h in 0..a.len() {
+        rows[place(n, 0, SetCode(h))] = a[h];
+        rows[place(n, 1, SetCode(h))] = b[h];
     }
 }
 
 // The product, from the rows into a table.
+#[tactic(auto, using(ranked_theory::specs::Layout::result_in_lem))]
 fn read_off(n: usize, rows: &[u32], res: &mut [u32])
     requires { Room n res.old rows.now }
     ensures { ReadOff n rows.now res.new }
 {
-    let mut h = 0;
-    while h < res.len() {
-        let from = result_place(n, SetCode(h));
-        res[h] = rows[from];
-        h += 1;
+    for h in 0..res.len() {
+        res[h] = rows[result_place(n, SetCode(h))];
     }
 }
 
 // The subset product of the two factors, which are laid out in the rows.
 pub fn multiply_both(n: usize, modulus: Modulus, res: &mut [u32], rows: &mut [u32])
-    requires valid { Valid modulus }
     requires both_ready { BothReady modulus.value n rows.old }
     requires res_len { length res.old ≡ 2 ^ n }
     ensures { ProductOfBoth modulus.value n rows.old res.new }
@@ -98,8 +87,7 @@ pub fn multiply_both(n: usize, modulus: Modulus, res: &mut [u32], rows: &mut [u3
 
 // The subset product of a and b.
 pub fn product(n: usize, modulus: Modulus, a: &[u32], b: &[u32], res: &mut [u32], rows: &mut [u32])
-    requires valid { Valid modulus }
-    requires tables_ready { TablesReady modulus.value n a.now b.now res.old rows.old }
+    requires { TablesReady modulus.value n a.now b.now res.old rows.old }
     ensures { res.new ≡ subset_table n modulus.value a.now b.now }
 {
     lay_out_both(n, a, b, rows);

@@ -2,8 +2,7 @@
 use Rattle.std.specs.Prelude.{◌≡◌, List, ℕ, ◌+◌, ◌^◌, ◌≤◌, ◌<◌, length, take, drop}
 use Rattle.definitions.specs.Sums.{at}
 use Rattle.definitions.specs.Products.{subset_table}
-use Rattle.ranked_theory.specs.Layout.{rows_length, result_place}
-use Rattle.ranked_theory.specs.Recursion.{LaidBoth}
+use Rattle.ranked_theory.specs.Layout.{rows_length}
 
 -- the table of k controls that starts at a place
 abbrev pub table_at : ℕ → ℕ → List ℕ → List ℕ
@@ -14,16 +13,6 @@ pub record Standing (k place : ℕ) (w : List ℕ) : Type 0 where
   pub few : k ≤ 16
   pub behind : rows_length k ≤ place
   pub inside : place + 2 ^ k ≤ length w
-
--- both factors laid out in the rows: the one at the place and b; what stands behind the rows is as it was
-pub record LaidWithin (k source : ℕ) (b w s : List ℕ) : Type 0 where
-  pub laid : LaidBoth k (table_at k source w) b s
-  pub rest : (x : ℕ) → rows_length k ≤ x → at s x ≡ at w x
-
--- the place holds the product that is in the rows; all else is as it was
-pub record ReadWithin (k target : ℕ) (w s : List ℕ) : Type 0 where
-  pub there : (h : ℕ) → h < 2 ^ k → at s (target + h) ≡ at w (result_place k h)
-  pub rest : (x : ℕ) → ((h : ℕ) → h < 2 ^ k → x ≡ target + h → ⊥) → at s x ≡ at w x
 
 -- tables of residues; source and target may be one place, or overlap
 pub record WithinReady (m k source target : ℕ) (b w : List ℕ) : Type 0 where

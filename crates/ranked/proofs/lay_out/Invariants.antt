@@ -5,6 +5,3 @@ use Rattle.ranked.proofs.lay_out.Given as goal
 
 abbrev pub invariant-loop-h : goal.invariant-loop-h
 invariant-loop-h l = Laying l.n l.side l.a l.initial.rows l.rows l.h
-
-abbrev pub decreases-loop-h : goal.decreases-loop-h
-decreases-loop-h l = length l.a - l.h

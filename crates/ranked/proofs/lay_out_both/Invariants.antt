@@ -5,6 +5,3 @@ use Rattle.ranked.proofs.lay_out_both.Given as goal
 
 abbrev pub invariant-loop-h : goal.invariant-loop-h
 invariant-loop-h l = LayingBoth l.n l.a l.b l.initial.rows l.rows l.h
-
-abbrev pub decreases-loop-h : goal.decreases-loop-h
-decreases-loop-h l = length l.a - l.h

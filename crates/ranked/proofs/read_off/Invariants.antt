@@ -5,6 +5,3 @@ use Rattle.ranked.proofs.read_off.Given as goal
 
 abbrev pub invariant-loop-h : goal.invariant-loop-h
 invariant-loop-h l = Reading l.n l.rows l.initial.res l.res l.h
-
-abbrev pub decreases-loop-h : goal.decreases-loop-h
-decreases-loop-h l = length l.initial.res - l.h

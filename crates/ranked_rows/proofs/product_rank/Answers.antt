@@ -2,19 +2,13 @@ use mathlib.Core.Path.{◌≡◌, refl, subst, ap₂}
 use Prim.Native.Nat.{ℕ, ◌+◌, ◌-◌, ◌*◌}
 use native.Mathlib.Omega.{arith}
 use Rattle.definitions.specs.Sums.{sum, at}
-use Rattle.residues.specs.Accumulated.{Holds, holds_none, holds_next, holds_room, holds_residue}
+use Rattle.residues.specs.Accumulated.{Holds, holds_none, holds_next, holds_residue}
 use Rattle.residues.specs.Moduli.{Residue}
 use Rattle.ranked_theory.specs.Leaf.{term}
 use Rattle.ranked_rows.proofs.product_rank.Goals as goal
 
 pub loop-j-init : goal.loop-j-init
 loop-j-init c = (omega arith, holds_none c.start-total.ensures)
-
-pub add_product-requires : goal.add_product-requires
-add_product-requires c = holds_room c.loop-j.invariant.1 (omega arith)
-
-pub add_product-total-requires : goal.add_product-total-requires
-add_product-total-requires c = holds_room (holds_next c.loop-j.invariant.1 c.add_product.ensures refl) (omega arith)
 
 pub loop-j-preserved : goal.loop-j-preserved
 loop-j-preserved c = let a = c.args in
@@ -30,15 +24,6 @@ loop-j-preserved c = let a = c.args in
           (ap₂ (λ (x y : ℕ). at a.row.now x * at a.row.now y) left right)),
     )
 
-pub add_product-requires-then-j-top : goal.add_product-requires-then-j-top
-add_product-requires-then-j-top c = holds_room c.loop-j.invariant.1 (omega arith)
-
-pub residue-requires : goal.residue-requires
-residue-requires c = c.requires.valid
-
-pub residue-requires-else-j-top : goal.residue-requires-else-j-top
-residue-requires-else-j-top c = c.requires.valid
-
 pub returns-then-j-top : goal.returns-then-j-top
 returns-then-j-top c = let a = c.args in
     let here = c.loop-j in
@@ -48,10 +33,3 @@ returns-then-j-top c = let a = c.args in
     let all : here.j + 1 ≡ t + 1 = omega arith in
     subst (λ (k : ℕ). Residue a.modulus.value (sum k (term t a.row.now)) c.residue.result) all
     (holds_residue (holds_next here.invariant.1 c.add_product-then-j-top.ensures (ap₂ (λ (x y : ℕ). at a.row.now x * at a.row.now y) left refl)) c.residue.ensures)
-
-pub returns-else-j-top : goal.returns-else-j-top
-returns-else-j-top c = let a = c.args in
-    let here = c.loop-j in
-    let t = a.d.0 - a.e.0 in
-    let all : here.j ≡ t + 1 = omega (arith, c.loop-j-test.false, c.if-j-top.false) in
-    subst (λ (k : ℕ). Residue a.modulus.value (sum k (term t a.row.now)) c.residue-else-j-top.result) all (holds_residue here.invariant.1 c.residue-else-j-top.ensures)
