@@ -1,31 +1,23 @@
 -- Rows of Pascal's triangle modulo m: the first, the next, and the sum of the terms that one gives.
 use mathlib.Core.Path.{◌≡◌, refl, sym, ◌∙◌, ap, ap₂}
-use mathlib.Core.List.{List, ◌∷◌, ◌++◌}
+use mathlib.Core.List.{List, ◌∷◌}
 use mathlib.Core.Logic.{⊎_elim}
 use Prim.Native.Nat.{ℕ, zero, suc, ◌+◌, ◌-◌, ◌*◌, ◌%◌, ◌<◌, ◌≤◌}
 use native.Mathlib.Nat.{mod-lt, mod-mod, mod-eq_of_lt, add_comm, add-zero}
 use native.Mathlib.Numerals.{add-one}
 use native.Mathlib.Omega.{arith}
-use lib.ListN.{length, drop, replicate, get_or-replicate, get_or-eq_default}
-use lib.Seq.{drop-cons, get_or_at}
+use lib.ListN.{length, replicate, get_or-replicate, get_or-eq_default}
 use Rattle.definitions.specs.Sums.{at, sum, tabulate}
 use Rattle.definitions.specs.Rows.{choose, binomial_sum}
 use Rattle.theory.specs.Tests.{below_or}
-use Rattle.theory.specs.Lists.{filled, length-tabulate, at-tabulate, tabulate_ext, tabulate_of}
+use Rattle.theory.specs.Lists.{length-tabulate, at-tabulate, tabulate_ext, tabulate_of}
 use Rattle.theory.specs.Remainders.{mod-add, mod-mul, mul_mod_l}
 use Rattle.theory.specs.Sums.{sum-mod}
 use Rattle.theory.specs.Binomial.{choose_none, choose_zero, choose_step}
 use Rattle.checks.specs.Accepted.{Entries}
 use Rattle.binomial.specs.Rules.{row_width, pascal_row, pascal_at, term_at, binomial_at}
 
--- ---- a loop that fills a list reads what it has not reached yet
-
-pub at-filled : (f : ℕ → ℕ) (i : ℕ) (r : List ℕ) {l : List ℕ} → l ≡ filled f i r → i < length r → at l i ≡ at r i
-unfolding filled
-at-filled f i r e h =
-    ap (λ (l : List ℕ). at l i) e
-    ∙ ap (λ (l : List ℕ). at (tabulate i f ++ l) i) (drop-cons r i 0 h)
-    ∙ get_or_at (tabulate i f) (at r i) (drop (suc i) r) 0 i (length-tabulate i f)
+-- ---- what is to the left
 
 pub left_more : (row : List ℕ) (j : ℕ) → at row j ≡ at (0 ∷ row) (j + 1)
 left_more row j = rw (add-one j)

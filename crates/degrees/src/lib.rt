@@ -18,10 +18,8 @@ fn counting(largest: SetSize, entry: u32, size: SetSize) -> SetSize
 {
     if entry == 0 {
         largest
-    } else if size.0 <= largest.0 {
-        largest
     } else {
-        size
+        SetSize(largest.0.max(size.0))
     }
 }
 

@@ -3,14 +3,12 @@
 use Rattle.std.specs.Prelude.{◌≡◌, List, ℕ}
 use Rattle.std.proofs.Common.{sym, ◌∙◌, ap₂}
 use Rattle.definitions.specs.Sums.{tabulate}
-use Rattle.residues.specs.Moduli.{Valid}
 use Rattle.residues.specs.declared.Modulus.{Modulus}
 use Rattle.checks.specs.Accepted.{Entries, Pair}
 use Rattle.checks.specs.Answers.{Stands}
 
--- what a loop needs of its modulus and of its two inputs, for a result of so many entries
+-- what a loop needs of its two inputs, for a result of so many entries
 pub record Inputs (modulus : Modulus) (long : ℕ) (a b : List ℕ) : Type 0 where
-  pub valid : Valid modulus
   pub first : Entries long modulus.value a
   pub second : Entries long modulus.value b
 
@@ -18,7 +16,6 @@ module _ {n m long : ℕ} {a b : List ℕ} {r : ℕ} {modulus : Modulus} (s : St
   pub inputs : Inputs modulus r a b
   inputs =
       record {
-        valid = s.valid;
         first = record { size = p.first.size ∙ sym p.result; below = λ i. rw s.value_is (p.first.below i) };
         second = record { size = p.second.size ∙ sym p.result; below = λ i. rw s.value_is (p.second.below i) };
       }

@@ -9,15 +9,12 @@ ghost use Rattle.pointwise.specs.Tables.{Ready};
 
 use residues::Modulus;
 
+// `copy_from_slice` under the name that the calls use.
 pub fn copy(from: &[u32], to: &mut [u32])
     requires { length from.now ≡ length to.old }
     ensures { to.new ≡ from.now }
 {
-    let mut i = 0;
-    while i < to.len() {
-        to[i] = from[i];
-        i += 1;
-    }
+    to.copy_from_slice(from);
 }
 
 // Entry by entry, the table times another.
@@ -26,10 +23,9 @@ pub fn multiply(n: u32, modulus: Modulus, other: &[u32], table: &mut [u32])
     requires ready_2 { Ready n modulus table.old }
     ensures { table.new ≡ point_table n modulus.value table.old other.now }
 {
-    let mut i = 0;
-    while i < table.len() {
-        table[i] = modulus.multiply(table[i], other[i]);
-        i += 1;
+    // with the index: of what is written through a `zip` of `iter_mut` a proof learns nothing
+    for (i, x) in table.iter_mut().enumerate() {
+        *x = modulus.multiply(*x, other[i]);
     }
 }
 
@@ -39,9 +35,7 @@ pub fn scale(n: u32, modulus: Modulus, factor: u32, table: &mut [u32])
     requires ready { Ready n modulus table.old }
     ensures { table.new ≡ residues n modulus.value (λ S. factor * at table.old S) }
 {
-    let mut i = 0;
-    while i < table.len() {
-        table[i] = modulus.multiply(factor, table[i]);
-        i += 1;
+    for x in table.iter_mut() {
+        *x = modulus.multiply(factor, *x);
     }
 }

@@ -10,9 +10,8 @@ use Rattle.theory.specs.Remainders.{mod-add, mod_back, mod_cancel}
 use Rattle.theory.specs.Convolution.{take_lower}
 use Rattle.theory.specs.Passes.{pass, passes, pass_lo, pass_hi}
 use Rattle.checks.specs.Accepted.{IsTable}
-use Rattle.transform_passes.specs.Steps.{lower_of, upper_of, FourBelow, FourOf, CanCrossFour, crossed_four, Applying}
+use Rattle.transform_passes.specs.Steps.{Step, KeepsResidues, FourBelow, FourOf, CanCrossFour, crossed_four, Applying}
 use Rattle.transform_passes.specs.declared.Four.{Four}
-use Rattle.transform_passes.specs.declared.Transform.{Transform}
 use Rattle.pointwise.specs.Filling.{Filling, fresh, unset, unset_from, next, full}
 use Rattle.transform_passes.proofs.Controls.{tabulated, passes_below}
 
@@ -134,14 +133,14 @@ module _ (p q : ℕ → ℕ → ℕ) (f : ℕ → ℕ) (b : ℕ) {s : ℕ} (h : 
 -- ---- the loop
 
 -- l is what is left of the table xs after so many fours
-pub record Crossing (m : ℕ) (t : Transform) (n blocks : ℕ) (xs : List ℕ) (block : ℕ) (l : List ℕ) : Type 0 where
+pub record Crossing (m : ℕ) (t : Step) (n blocks : ℕ) (xs : List ℕ) (block : ℕ) (l : List ℕ) : Type 0 where
   pub controls : 1 < n
   pub blocks_is : blocks ≡ 2 ^ (n - 2)
   pub table : IsTable n m xs
   pub within : block ≤ blocks
-  pub filling : Filling (passes (lower_of m t) (upper_of m t) 2 (at xs)) xs (4 * block) l
+  pub filling : Filling (passes (t.lower m) (t.upper m) 2 (at xs)) xs (4 * block) l
 
-module _ {m : ℕ} {t : Transform} {n blocks : ℕ} {xs : List ℕ} where
+module _ {m : ℕ} {t : Step} {n blocks : ℕ} {xs : List ℕ} where
   pub start : 1 < n → blocks ≡ 2 ^ (n - 2) → IsTable n m xs → Crossing m t n blocks xs 0 xs
   start c b h = record { controls = c; blocks_is = b; table = h; within = omega arith; filling = fresh }
 
@@ -152,14 +151,14 @@ module _ {m : ℕ} {t : Transform} {n blocks : ℕ} {xs : List ℕ} where
         let d : 4 * 2 ^ (n - 2) ≡ 2 ^ suc (suc (n - 2)) = omega arith in
         ap (λ (k : ℕ). 4 * k) h.blocks_is ∙ d ∙ ap (λ (k : ℕ). 2 ^ k) e ∙ sym h.table.size
 
-    pub end : blocks ≤ block → Applying m t n xs 2 l
-    end e =
-        let f = passes (lower_of m t) (upper_of m t) 2 (at xs) in
+    pub end : KeepsResidues t → blocks ≤ block → Applying m t n xs 2 l
+    end keeps e =
+        let f = passes (t.lower m) (t.upper m) 2 (at xs) in
         let is : l ≡ tabulate (2 ^ n) f = full h.filling (omega (arith, all_fours)) ∙ ap (λ (k : ℕ). tabulate k f) h.table.size in
         record {
           within = omega (arith, h.controls);
           size = h.table.size;
-          table = rw is (tabulated n (passes_below m t 2 (at xs) h.table.below));
+          table = rw is (tabulated n (passes_below m keeps 2 (at xs) h.table.below));
           is = is;
         }
 
@@ -174,12 +173,12 @@ module _ {m : ℕ} {t : Transform} {n blocks : ℕ} {xs : List ℕ} where
             below = λ k e. rw (unset_from h.filling k) (h.table.below (4 * block + k));
           }
 
-      pub turn : {new : List ℕ} → new ≡ crossed_four (lower_of m t) (upper_of m t) (4 * block) l → Crossing m t n blocks xs (block + 1) new
+      pub turn : {new : List ℕ} → new ≡ crossed_four (t.lower m) (t.upper m) (4 * block) l → Crossing m t n blocks xs (block + 1) new
       unfolding crossed_four
       turn {new} e =
           let s = 4 * block in
-          let p = lower_of m t in
-          let q = upper_of m t in
+          let p = t.lower m in
+          let q = t.upper m in
           let w = h.filling in
           let x0 = unset w in
           let x1 = unset_from w 1 in

@@ -1,23 +1,42 @@
 -- The step of each transform, on the entries of a set without a control and of the set with it, and the tables it is made on.
 use Rattle.std.specs.Prelude.{◌≡◌, List, ℕ, ◌+◌, ◌*◌, ◌%◌, ◌^◌, ◌<◌, ◌≤◌, length, set}
+use Rattle.std.proofs.Common.{arith, mod-lt}
 use Rattle.definitions.specs.Sums.{tabulate, at}
 use Rattle.theory.specs.Passes.{lower, passes}
 use Rattle.theory.specs.Convolution.{add_lower, take_lower, add_upper, take_upper, transformed, point_table}
 use Rattle.checks.specs.Accepted.{IsTable}
 use Rattle.transform_passes.specs.declared.Four.{Four}
-use Rattle.transform_passes.specs.declared.Transform.{Transform}
-use Rattle.transform_passes.specs.declared.Transform.TheVariants.{Zeta, Moebius, Walsh}
 
--- what then stands at the set without the control, and at the one with it
-abbrev pub lower_of : ℕ → Transform → ℕ → ℕ → ℕ
-lower_of m Zeta = lower
-lower_of m Moebius = lower
-lower_of m Walsh = add_upper m
+-- what then stands at the set without the control, and at the one with it, modulo m
+pub record Step : Type 0 where
+  pub lower : ℕ → ℕ → ℕ → ℕ
+  pub upper : ℕ → ℕ → ℕ → ℕ
 
-abbrev pub upper_of : ℕ → Transform → ℕ → ℕ → ℕ
-upper_of m Zeta = add_lower m
-upper_of m Moebius = take_lower m
-upper_of m Walsh = take_upper m
+abbrev pub zeta : Step
+zeta = record { lower = λ m. lower; upper = add_lower }
+
+abbrev pub moebius : Step
+moebius = record { lower = λ m. lower; upper = take_lower }
+
+abbrev pub walsh : Step
+walsh = record { lower = add_upper; upper = take_upper }
+
+-- of residues it makes residues
+pub record KeepsResidues (s : Step) : Type 0 where
+  pub lower : (m x y : ℕ) → x < m → y < m → s.lower m x y < m
+  pub upper : (m x y : ℕ) → x < m → y < m → s.upper m x y < m
+
+positive : {m x : ℕ} → x < m → 0 < m
+positive h = omega arith
+
+pub zeta_keeps : KeepsResidues zeta
+zeta_keeps = record { lower = λ m x y p q. p; upper = λ m x y p q. mod-lt _ (positive p) }
+
+pub moebius_keeps : KeepsResidues moebius
+moebius_keeps = record { lower = λ m x y p q. p; upper = λ m x y p q. mod-lt _ (positive p) }
+
+pub walsh_keeps : KeepsResidues walsh
+walsh_keeps = record { lower = λ m x y p q. mod-lt _ (positive p); upper = λ m x y p q. mod-lt _ (positive p) }
 
 -- r is v, and a residue
 pub record Gives (m v r : ℕ) : Type 0 where
@@ -54,15 +73,15 @@ crossed_four p q i l =
 -- ---- tables
 
 -- l is what is left of the table xs after i controls
-pub record Applying (m : ℕ) (t : Transform) (n : ℕ) (xs : List ℕ) (i : ℕ) (l : List ℕ) : Type 0 where
+pub record Applying (m : ℕ) (t : Step) (n : ℕ) (xs : List ℕ) (i : ℕ) (l : List ℕ) : Type 0 where
   pub within : i ≤ n
   pub size : length xs ≡ 2 ^ n
   pub table : IsTable n m l
-  pub is : l ≡ tabulate (2 ^ n) (passes (lower_of m t) (upper_of m t) i (at xs))
+  pub is : l ≡ tabulate (2 ^ n) (passes (t.lower m) (t.upper m) i (at xs))
 
 -- l is the table xs transformed
-pub record Transformed (m : ℕ) (t : Transform) (n : ℕ) (xs l : List ℕ) : Type 0 where
-  pub is : l ≡ transformed (lower_of m t) (upper_of m t) n xs
+pub record Transformed (m : ℕ) (t : Step) (n : ℕ) (xs l : List ℕ) : Type 0 where
+  pub is : l ≡ transformed (t.lower m) (t.upper m) n xs
   pub table : IsTable n m l
 
 -- r times 2 ^ n is 1
@@ -71,6 +90,6 @@ pub record Halves (n m r : ℕ) : Type 0 where
   pub below : r < m
 
 -- two tables transformed, and multiplied entry by entry
-abbrev pub products : ℕ → ℕ → Transform → List ℕ → List ℕ → List ℕ
+abbrev pub products : ℕ → ℕ → Step → List ℕ → List ℕ → List ℕ
 products n m t a b =
-    point_table n m (transformed (lower_of m t) (upper_of m t) n a) (transformed (lower_of m t) (upper_of m t) n b)
+    point_table n m (transformed (t.lower m) (t.upper m) n a) (transformed (t.lower m) (t.upper m) n b)

@@ -19,7 +19,6 @@ module _ {n m r p : ℕ} {a b : List ℕ} {modulus : Modulus} (s : Stands modulu
   ready t =
       record {
         few = h.range.few;
-        valid = s.valid;
         table = record { size = t.size; below = λ i. rw s.value_is (t.below i) };
       }
 

@@ -1,4 +1,3 @@
-use Prim.Native.Nat.{◌-◌}
 use Rattle.degrees.proofs.+degree_of_part.Given as goal
 
 abbrev pub decreases-degree_of_part : goal.decreases-degree_of_part

@@ -1,27 +1,16 @@
-use mathlib.Core.Path.{sym}
-use Prim.Native.Nat.{ℕ}
-use Rattle.definitions.specs.Products.{residues, difference_table}
+use Rattle.std.proofs.Common.{ℕ}
+use Rattle.definitions.specs.Products.{residues}
 use Rattle.checks.specs.Accepted.{sum_accepted}
-use Rattle.checks.specs.Answers.{accepted}
-use Rattle.checks.specs.Ends.{refused_result}
+use Rattle.checks.specs.Answers.{passed, stands_in}
 use Rattle.entrywise.specs.Rules.{difference_at}
 use Rattle.pointwise.specs.Pairs.{inputs, tabled}
 use Rattle.entrywise.proofs.difference.Goals as goal
 
 pub subtract_entries-requires : goal.subtract_entries-requires
-subtract_entries-requires c = let h = c.check_pair.ensures in
-    inputs (h.stands _ c.in-Accepted.is) (sum_accepted _ _ _ _ _ (accepted h c.in-Accepted.is))
+subtract_entries-requires c = let h = c.in_ok-modulus.ensures in inputs (stands_in h) (sum_accepted _ _ _ _ _ (passed h))
 
-pub returns-in-Accepted : goal.returns-in-Accepted
+pub returns-clause-res_after : goal.returns-clause-res_after
 unfolding residues
-returns-in-Accepted c = let s = c.args in
-    let h = c.check_pair.ensures in
-    let zero = accepted h c.in-Accepted.is in record {
-      value = sym zero;
-      res_after = tabled (h.stands _ c.in-Accepted.is) (sum_accepted _ _ _ _ _ zero)
-          (λ (m : ℕ). difference_at m s.a.now s.b.now)
-          c.subtract_entries.ensures;
-    }
-
-pub returns-in-Refused : goal.returns-in-Refused
-returns-in-Refused c = let s = c.args in let all = refused_result c.check_pair.ensures c.in-Refused.is (difference_table s.n s.m s.a.now s.b.now) s.res.now in record { value = all.0; res_after = all.1 }
+returns-clause-res_after c = let s = c.args in
+    let h = c.in_ok-modulus.ensures in
+    tabled (stands_in h) (sum_accepted _ _ _ _ _ (passed h)) (λ (m : ℕ). difference_at m s.a.now s.b.now) c.subtract_entries.ensures

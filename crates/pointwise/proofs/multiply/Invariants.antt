@@ -1,11 +1,7 @@
-use Prim.Native.Nat.{◌*◌, ◌-◌, ◌%◌}
-use lib.ListN.{length}
+use Prim.Native.Nat.{◌*◌, ◌%◌}
 use Rattle.definitions.specs.Sums.{at}
 use Rattle.pointwise.specs.Filling.{Filling}
 use Rattle.pointwise.proofs.multiply.Given as goal
 
 abbrev pub invariant-loop-i : goal.invariant-loop-i
 invariant-loop-i l = Filling (λ S. at l.initial.table S * at l.other S % l.modulus.value) l.initial.table l.i l.table
-
-abbrev pub decreases-loop-i : goal.decreases-loop-i
-decreases-loop-i l = length l.initial.table - l.i

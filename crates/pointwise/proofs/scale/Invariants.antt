@@ -1,11 +1,7 @@
-use Prim.Native.Nat.{◌*◌, ◌-◌, ◌%◌}
-use lib.ListN.{length}
+use Prim.Native.Nat.{◌*◌, ◌%◌}
 use Rattle.definitions.specs.Sums.{at}
 use Rattle.pointwise.specs.Filling.{Filling}
 use Rattle.pointwise.proofs.scale.Given as goal
 
-abbrev pub invariant-loop-i : goal.invariant-loop-i
-invariant-loop-i l = Filling (λ S. l.factor * at l.initial.table S % l.modulus.value) l.initial.table l.i l.table
-
-abbrev pub decreases-loop-i : goal.decreases-loop-i
-decreases-loop-i l = length l.initial.table - l.i
+abbrev pub invariant-loop-x : goal.invariant-loop-x
+invariant-loop-x l = Filling (λ S. l.factor * at l.initial.table S % l.modulus.value) l.initial.table l.x-index l.table

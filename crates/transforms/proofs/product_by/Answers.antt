@@ -16,17 +16,17 @@ part : (n : ℕ) {used long : ℕ} → used ≡ pad_length n → long ≡ 2 ^ n 
 part n e l = omega (arith, table_fits n, l)
 
 pub slice_bounds-convolve-end : goal.slice_bounds-convolve-end
-slice_bounds-convolve-end c = omega (arith, part c.args.n refl c.power-long.ensures, c.requires.room)
+slice_bounds-convolve-end g c = omega (arith, part c.args.n refl c.power-long.ensures, c.requires.room)
 
 pub slice_bounds-convolve-end-2 : goal.slice_bounds-convolve-end-2
-slice_bounds-convolve-end-2 c = part_long (lent c.args.n c.args.workspace.now c.requires.room refl) (part c.args.n refl c.power-long.ensures)
+slice_bounds-convolve-end-2 g c = part_long (lent c.args.n c.args.workspace.now c.requires.room refl) (part c.args.n refl c.power-long.ensures)
 
 pub convolve-requires : goal.convolve-requires
-convolve-requires c = let inputs = c.requires in record { ready = inputs.first; ready_2 = inputs.second; a_len = inputs.first.table.size ∙ sym inputs.result_is; b_len = inputs.second.table.size ∙ sym c.power-long.ensures ∙ part_long (lent c.args.n c.args.workspace.now c.requires.room refl) (part c.args.n refl c.power-long.ensures) }
+convolve-requires g c = let inputs = c.requires in record { ready = inputs.first; ready_2 = inputs.second; a_len = inputs.first.table.size ∙ sym inputs.result_is; b_len = inputs.second.table.size ∙ sym c.power-long.ensures ∙ part_long (lent c.args.n c.args.workspace.now c.requires.room refl) (part c.args.n refl c.power-long.ensures) }
 
 pub clear-requires : goal.clear-requires
-clear-requires c = let used = c.pad_length-used.ensures in
+clear-requires g c = let used = c.pad_length-used.ensures in
     omega (arith, part c.args.n used c.power-long.ensures, clear_fits (lent c.args.n c.args.workspace.now c.requires.room used) (part c.args.n used c.power-long.ensures) c.convolve.new.other c.convolve.auto.other)
 
 pub returns : goal.returns
-returns c = let used = c.pad_length-used.ensures in record { transformed = c.convolve.ensures; workspace_after = front_cleared (lent c.args.n c.args.workspace.now c.requires.room used) (part c.args.n used c.power-long.ensures) c.convolve.new.other c.convolve.auto.other c.clear.ensures }
+returns g c = let used = c.pad_length-used.ensures in record { transformed = c.convolve.ensures; workspace_after = front_cleared (lent c.args.n c.args.workspace.now c.requires.room used) (part c.args.n used c.power-long.ensures) c.convolve.new.other c.convolve.auto.other c.clear.ensures }
