@@ -1,21 +1,20 @@
 -- The levels of a composition: the row itself, one level from the next, and the last.
 use mathlib.Core.Path.{◌≡◌, refl, sym, ap, ap₂, subst, ◌∙◌}
-use mathlib.Core.List.{List}
+use mathlib.Core.List.{List, ◌++◌}
 use mathlib.Core.Logic.{⊎_elim}
 use Prim.Native.Nat.{ℕ, suc, ◌+◌, ◌-◌, ◌*◌, ◌%◌, ◌^◌, ◌<◌, ◌≤◌}
 use native.Mathlib.Nat.{mod-lt, mod-eq_of_lt, add-zero}
 use native.Mathlib.Numerals.{add-one}
 use native.Mathlib.Omega.{arith}
 use lib.Arith.{lt-one}
-use lib.ListN.{length, take, drop, length-append, length-drop}
+use lib.ListN.{length, take, drop, get_or-append, length-drop}
 use lib.Pow.{pow_mono}
 use lib.Seq.{length-take-le, drop_at, get_or-take, get_or-drop}
-use borrow.Rule.Slice.PartMut.{put_mid}
-use Rattle.definitions.specs.Sums.{tabulate, at}
+use borrow.Rule.Slice.PartMut.{mid_len, post_of, put_mid, same_len_mid}
+use Rattle.definitions.specs.Sums.{at}
 use Rattle.definitions.specs.Partitions.{composition_sum, composition_table}
 use Rattle.theory.specs.Tests.{below_or}
-use Rattle.theory.specs.Lists.{filled, filled_at, filled_all, tabulate_of, residues_of}
-use Rattle.theory.specs.Parts.{part_behind, put_behind}
+use Rattle.theory.specs.Lists.{residues_of}
 use Rattle.theory.specs.Powers.{more_than, slots_fit}
 use Rattle.theory.specs.Halves.{from, from_none}
 use Rattle.theory.specs.Composition.{composition_empty}
@@ -96,33 +95,35 @@ module _ {n m start : ℕ} {a f w₀ : List ℕ} (e : start ≡ rows_length n) (
   tables_in : start ≤ length w₀
   tables_in = omega (arith, d.room)
 
-  -- the tables' part of the workspace, as it is lent
-  abbrev part : List ℕ
-  part = take (length w₀ - start) (drop start w₀)
+  -- the row's entries, copied up to `stop`, are the tables of no controls
+  module _ {stop : ℕ} (stops : stop ≡ start + (n + 1)) where
+    pub row_in : stop ≤ length w₀
+    row_in = omega (arith, d.room, more_than n)
 
-  pub row_fits : (n + 1 ≤ length f) × (n + 1 ≤ length part)
-  row_fits = (omega (arith, g.long), omega (arith, ap length (part_behind start w₀), length-drop start w₀, d.room, more_than n))
+    pub row_fits : length (take (stop - start) (drop start w₀)) ≡ n + 1
+    row_fits = omega (arith, mid_len start stop w₀ row_in)
 
-  -- the row's entries are the tables of no controls
-  pub composing_first : (r : List ℕ) → r ≡ filled (at f) (n + 1) part → length r ≡ length part
-      → Composing n m start a f (put_mid start (length w₀ - start) w₀ r) 0 (put_mid start (length w₀ - start) w₀ r)
-  composing_first r is l =
-      let long : length (take start w₀) ≡ start = length-take-le start w₀ tables_in in
-      let put = put_behind start w₀ r in
-      let tables : drop start (put_mid start (length w₀ - start) w₀ r) ≡ r = ap (drop start) put ∙ drop_at (take start w₀) r start long in
-      record {
-        left = omega arith;
-        same = refl;
-        room = rw put (simp (length-append, long) (omega (arith, l, ap length (part_behind start w₀), length-drop start w₀, d.room)));
-        slots = rw tables (record {
-          slot = λ i S z h c.
-              let none : S ≡ 0 = lt-one c in
-              let place : i * 2 ^ 0 + S ≡ i = omega arith in
-              ap (at r) place ∙ ap (λ (t : List ℕ). at t i) is ∙ filled_at (at f) (n + 1) part i (omega arith) ∙ sym (mod-eq_of_lt (g.below i (omega arith)))
-              ∙ ap (λ (x : ℕ). at f x % m) (sym (add-zero i)) ∙ ap (λ (x : ℕ). x % m) (sym (composition_empty 0 (from i (at f)) (at a)))
-              ∙ ap (λ (x : ℕ). composition_sum 0 (from i (at f)) (at a) x % m) (sym none);
-        });
-      }
+    pub composing_first : {r : List ℕ} → r ≡ take (n + 1) f → let w = put_mid start (stop - start) w₀ r in Composing n m start a f w 0 w
+    composing_first {r} is =
+        let w : List ℕ = put_mid start (stop - start) w₀ r in
+        let rest : List ℕ = post_of start (stop - start) w₀ in
+        let long : length (take start w₀) ≡ start = length-take-le start w₀ tables_in in
+        let many : length r ≡ n + 1 = ap length is ∙ length-take-le (n + 1) f (omega (arith, g.long)) in
+        let tables : drop start w ≡ r ++ rest = drop_at (take start w₀) (r ++ rest) start long in
+        record {
+          left = omega arith;
+          same = refl;
+          room = omega (arith, same_len_mid start (stop - start) w₀ r (many ∙ sym row_fits), d.room);
+          slots = record {
+            slot = λ i S z h c.
+                let none : S ≡ 0 = lt-one c in
+                let place : i * 2 ^ 0 + S ≡ i = omega arith in
+                ap (at (drop start w)) place ∙ ap (λ (t : List ℕ). at t i) tables ∙ get_or-append r rest 0 i (omega (arith, many))
+                ∙ ap (λ (t : List ℕ). at t i) is ∙ get_or-take (n + 1) f i 0 (omega arith) ∙ sym (mod-eq_of_lt (g.below i (omega arith)))
+                ∙ ap (λ (x : ℕ). at f x % m) (sym (add-zero i)) ∙ ap (λ (x : ℕ). x % m) (sym (composition_empty 0 (from i (at f)) (at a)))
+                ∙ ap (λ (x : ℕ). composition_sum 0 (from i (at f)) (at a) x % m) (sym none);
+          };
+        }
 
   module _ {w₁ : List ℕ} {k : ℕ} {w : List ℕ} (o : Composing n m start a f w₁ k w) where
     pub level_ready : k < n → LevelReady n k m start a w
@@ -161,15 +162,9 @@ module _ {n m start : ℕ} {a f w₀ : List ℕ} (e : start ≡ rows_length n) (
 
 -- ---- the result
 
-module _ {n start : ℕ} {w r : List ℕ} (e : start ≡ rows_length n) (d : ResultReady n w r) where
-  -- all of the result, or some of it
-  pub result_fits : (count : ℕ) → count ≤ length r → (count ≤ length (take (length w - start) (drop start w))) × (count ≤ length r)
-  result_fits count few = (omega (arith, ap length (part_behind start w), length-drop start w, d.room, d.as_long), few)
+module _ {n start stop : ℕ} {w r : List ℕ} (e : start ≡ rows_length n) (d : ResultReady n w r) (stops : stop ≡ start + length r) where
+  pub result_within : stop ≤ length w
+  result_within = omega (arith, d.room, d.as_long)
 
-  pub result_taken : {l : List ℕ} → l ≡ filled (at (take (length w - start) (drop start w))) (length r) r → l ≡ result_in n w
-  result_taken made =
-      let t = result_in n w in
-      let long : length t ≡ 2 ^ n = length-take-le (2 ^ n) (drop (rows_length n) w) (omega (arith, length-drop (rows_length n) w, d.room)) in
-      made ∙ filled_all (at (take (length w - start) (drop start w))) (length r) r (omega arith)
-      ∙ ap₂ (λ (k : ℕ) (u : List ℕ). tabulate k (at u)) d.as_long (part_behind start w ∙ ap (λ (s : ℕ). drop s w) e)
-      ∙ sym (tabulate_of (2 ^ n) t (at (drop (rows_length n) w)) long (λ S c. get_or-take (2 ^ n) (drop (rows_length n) w) S 0 c))
+  pub result_taken : take (stop - start) (drop start w) ≡ result_in n w
+  result_taken = let many : stop - start ≡ 2 ^ n = omega (arith, d.as_long) in ap₂ (λ (k s : ℕ). take k (drop s w)) many e

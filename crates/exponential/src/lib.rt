@@ -3,7 +3,6 @@
 
 ghost use Rattle.std.specs.Prelude.{◌≡◌, suc};
 ghost use Rattle.definitions.specs.Partitions.{exponential_table};
-ghost use Rattle.residues.specs.Moduli.{Valid};
 ghost use Rattle.exponential.specs.Ready.{Ready, upper_filled};
 
 use pads::power_of_two;
@@ -12,8 +11,7 @@ use residues::Modulus;
 
 // The upper half becomes its product with the lower half, which is finished. Both are laid out first, one after the other.
 fn fill_upper(p: usize, modulus: Modulus, table: &mut [u32], workspace: &mut [u32])
-    requires valid { Valid modulus }
-    requires ready { Ready (suc p) modulus.value table.old workspace.old }
+    requires { Ready (suc p) modulus.value table.old workspace.old }
     ensures { table.new ≡ upper_filled p modulus.value table.old }
 {
     let mid = power_of_two(p);
@@ -24,8 +22,7 @@ fn fill_upper(p: usize, modulus: Modulus, table: &mut [u32], workspace: &mut [u3
 
 // A table of q controls becomes its exponential, by its halves.
 pub fn exponential_table(q: usize, modulus: Modulus, table: &mut [u32], workspace: &mut [u32])
-    requires valid { Valid modulus }
-    requires ready { Ready q modulus.value table.old workspace.old }
+    requires { Ready q modulus.value table.old workspace.old }
     ensures { table.new ≡ exponential_table q modulus.value table.old }
 {
     if q == 0 {

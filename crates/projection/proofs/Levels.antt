@@ -6,15 +6,14 @@ use Prim.Native.Nat.{ℕ, suc, ◌+◌, ◌-◌, ◌*◌, ◌%◌, ◌^◌, ◌<
 use native.Mathlib.Nat.{mod-lt, mod-mod}
 use native.Mathlib.Numerals.{add-one}
 use native.Mathlib.Omega.{arith}
-use lib.ListN.{length, take, drop}
+use lib.ListN.{length, take, drop, replicate, length-replicate, get_or-replicate}
 use lib.Pow.{pow_mono, pow_pos}
 use borrow.Rule.Slice.PartMut.{mid_len, put_mid, same_len_mid}
 use Rattle.definitions.specs.Sums.{at}
 use Rattle.definitions.specs.Products.{subset_sum}
-use Rattle.definitions.specs.Refusals.{cleared}
 use Rattle.definitions.specs.Projection.{projection_entry, projection_row}
 use Rattle.theory.specs.Tests.{below_or}
-use Rattle.theory.specs.Lists.{filled, filled_at, tabulate_of}
+use Rattle.theory.specs.Lists.{tabulate_of}
 use Rattle.theory.specs.Parts.{at_part}
 use Rattle.theory.specs.Powers.{more_than, slots_fit, two_slots}
 use Rattle.theory.specs.Halves.{Row}
@@ -34,29 +33,6 @@ use Rattle.projection.proofs.Places.{untouched, part_placed}
 module _ {m n k source target : ℕ} {b w : List ℕ} (d : LevelReady m n k source target b w) where
   fewer : 2 ^ k ≤ 2 ^ n
   fewer = pow_mono (omega (arith, d.more))
-
-  -- the part of the workspace that is cleared, up to `end`
-  module _ {size end : ℕ} (e : size ≡ 2 ^ k) (stop : end ≡ target + size) where
-    pub zeros_in : end ≤ length w
-    zeros_in = omega (arith, fewer, d.areas.target_in)
-
-    many : end - target ≡ size
-    many = omega arith
-
-    pub zeros_fit : size ≤ length (take (end - target) (drop target w))
-    zeros_fit = omega (arith, mid_len target end w zeros_in)
-
-    -- and has come back
-    module _ {new : List ℕ} (is : new ≡ cleared size (take (end - target) (drop target w)))
-        (kept : length new ≡ length (take (end - target) (drop target w))) where
-      pub zeros-placed : Placed (λ x. 0) target (2 ^ k) w (put_mid target (end - target) w new)
-      unfolding cleared filled
-      zeros-placed =
-          runs.placed_as (part_placed target end w new (omega arith) zeros_in (kept ∙ mid_len target end w zeros_in)) (many ∙ e)
-          (λ i h. ap (λ (l : List ℕ). at l i) is ∙ filled_at (λ x. 0) size _ i (omega arith))
-
-      pub zeros_long : length (put_mid target (end - target) w new) ≡ length w
-      zeros_long = same_len_mid target (end - target) w new kept
 
   -- v is w with zeros there
   module _ {v : List ℕ} (p : Placed (λ x. 0) target (2 ^ k) w v) (long : length v ≡ length w) where
@@ -82,83 +58,110 @@ module _ {m n k source target : ℕ} {b w : List ℕ} (d : LevelReady m n k sour
 
 -- ---- one level: a table a turn
 
--- what i turns have made of w₀
-pub record Turning (m n k source target : ℕ) (b w₀ : List ℕ) (lower here i : ℕ) (w : List ℕ) : Type 0 where
-  pub lower_is : lower ≡ source + 2 * (i * 2 ^ k)
-  pub here_is : here ≡ target + i * 2 ^ k
+-- what i turns have made of w₀, which is the workspace as it came with zeros for the first table
+pub record Turning (m n k source target : ℕ) (b lent w₀ : List ℕ) (i : ℕ) (w : List ℕ) : Type 0 where
+  pub ready : LevelReady m n k source target b w₀
+  pub zeros : Placed (λ x. 0) target (2 ^ k) lent w₀
+  pub as_lent : length w₀ ≡ length lent
   pub long : length w ≡ length w₀
   pub kept : (x : ℕ) → x < 2 ^ n → at w (source + x) ≡ at w₀ (source + x)
   pub filled : Residues m k (suc i) target w
   pub same : Same m k (suc i) (slots k target w) (suc k) i (slots (suc k) source w₀) (at b)
 
-module _ {m n k source target : ℕ} {b w₀ : List ℕ} (d : LevelReady m n k source target b w₀) (pos : 0 < m) where
-  pub turning_none : {w : List ℕ} → Placed (λ x. 0) target (2 ^ k) w w₀ → Turning m n k source target b w₀ source target 0 w₀
-  turning_none p =
-      let zero-at : (S : ℕ) → S < 2 ^ k → slots k target w₀ 0 S ≡ 0 =
-      λ S h. ap (at w₀) (let z : target + (0 * 2 ^ k + S) ≡ target + S = omega arith in z) ∙ p.inside S h in
+module _ {m n k source target size end : ℕ} {b w : List ℕ} (d : LevelReady m n k source target b w) (e : size ≡ 2 ^ k) (stop : end ≡ target + size) where
+  -- the part of the workspace that is cleared, up to `end`
+  pub zeros_in : end ≤ length w
+  zeros_in = omega (arith, fewer d, d.areas.target_in)
+
+  abbrev part : List ℕ
+  part = take (end - target) (drop target w)
+
+  pub turning_none : 0 < m → {new : List ℕ} → new ≡ replicate (length part) 0
+      → let v = put_mid target (end - target) w new in Turning m n k source target b w v 0 v
+  turning_none pos {new} is =
+      let v : List ℕ = put_mid target (end - target) w new in
+      let many : length part ≡ end - target = mid_len target end w zeros_in in
+      let long : length new ≡ length part = ap length is ∙ length-replicate {A = ℕ} (length part) 0 in
+      let p : Placed (λ x. 0) target (2 ^ k) w v =
+      runs.placed_as (part_placed target end w new (omega arith) zeros_in (long ∙ many)) (let z : end - target ≡ 2 ^ k = omega arith in z)
+      (λ i h. ap (λ (l : List ℕ). at l i) is ∙ get_or-replicate (length part) i 0 0 (omega arith)) in
+      let zero-at : (S : ℕ) → S < 2 ^ k → slots k target v 0 S ≡ 0 =
+      λ S h. ap (at v) (let z : target + (0 * 2 ^ k + S) ≡ target + S = omega arith in z) ∙ p.inside S h in
+      let same_long : length v ≡ length w = same_len_mid target (end - target) w new long in
       record {
-        lower_is = omega arith;
-        here_is = omega arith;
+        ready = zeroed d p same_long;
+        zeros = p;
+        as_lent = same_long;
         long = refl;
         kept = λ x h. refl;
         filled = λ i S t h. let z : i ≡ 0 = omega arith in rw z (subst (λ (x : ℕ). x < m) (sym (zero-at S h)) pos);
-        same = turn_none m k (at b) (slots (suc k) source w₀) (slots k target w₀) zero-at;
+        same = turn_none m k (at b) (slots (suc k) source v) (slots k target v) zero-at;
       }
 
-  module _ {lower here i : ℕ} {w : List ℕ} (o : Turning m n k source target b w₀ lower here i w) (more : i < n - k) where
+module _ {m n k source target size i : ℕ} {b lent w₀ w : List ℕ} (e : size ≡ 2 ^ k) (o : Turning m n k source target b lent w₀ i w) where
+  -- where the turn reads and writes
+  abbrev lower : ℕ
+  lower = source + 2 * (i * size)
+
+  abbrev here : ℕ
+  here = target + i * size
+
+  lower_is : lower ≡ source + 2 * (i * 2 ^ k)
+  lower_is = ap (λ (x : ℕ). source + 2 * (i * x)) e
+
+  here_is : here ≡ target + i * 2 ^ k
+  here_is = ap (λ (x : ℕ). target + i * x) e
+
+  module _ (more : i < n - k) where
     fit : 2 * (suc i * 2 ^ k) ≤ 2 ^ n
     fit = slots_fit n k i (omega arith)
 
     rows : rows_length k ≤ rows_length n
-    rows = rows_mono k n (omega (arith, d.more))
+    rows = rows_mono k n (omega (arith, o.ready.more))
 
     -- the table of k + 1 controls that is read, as it came
     old : (x : ℕ) → x < 2 ^ suc k → at w (lower + x) ≡ slots (suc k) source w₀ i x
     old x h =
-        let place : lower + x ≡ source + (2 * (i * 2 ^ k) + x) = omega (arith, o.lower_is) in
+        let place : lower + x ≡ source + (2 * (i * 2 ^ k) + x) = omega (arith, lower_is) in
         let slot : source + (2 * (i * 2 ^ k) + x) ≡ source + (i * 2 ^ suc k + x) = omega (arith, two_slots i k) in
         ap (at w) place ∙ o.kept (2 * (i * 2 ^ k) + x) (omega (arith, fit)) ∙ ap (at w₀) slot
 
-    module _ {size : ℕ} (e : size ≡ 2 ^ k) where
-      pub lower_fits : lower + size + size ≤ length w
-      lower_fits = omega (arith, fit, o.lower_is, o.long, d.areas.source_in)
-
-      pub here_fits : here + size ≤ length w
-      here_fits = omega (arith, fit, o.here_is, o.long, d.areas.target_in)
+    pub turn_inside : lower + here ≤ 2 * length w
+    turn_inside = omega (arith, fit, lower_is, here_is, o.long, o.ready.areas.source_in, o.ready.areas.target_in)
 
     pub turn_ready : TurnReady m k lower here b w
     turn_ready =
-        let l : 2 ^ suc k ≤ 2 ^ n = pow_mono d.more in
+        let l : 2 ^ suc k ≤ 2 ^ n = pow_mono o.ready.more in
         record {
-          few = omega (arith, d.few, d.more);
-          entries = omega (arith, d.long);
-          below = λ S h. d.below S (omega arith);
-          lower_behind = omega (arith, rows, o.lower_is, d.areas.source_behind);
-          here_behind = omega (arith, rows, o.here_is, d.areas.target_behind);
-          lower_in = omega (arith, fit, o.lower_is, o.long, d.areas.source_in);
-          here_in = omega (arith, fit, o.here_is, o.long, d.areas.target_in);
+          few = omega (arith, o.ready.few, o.ready.more);
+          entries = omega (arith, o.ready.long);
+          below = λ S h. o.ready.below S (omega arith);
+          lower_behind = omega (arith, rows, lower_is, o.ready.areas.source_behind);
+          here_behind = omega (arith, rows, here_is, o.ready.areas.target_behind);
+          lower_in = omega (arith, fit, lower_is, o.long, o.ready.areas.source_in);
+          here_in = omega (arith, fit, here_is, o.long, o.ready.areas.target_in);
           apart = λ x y hx hy q.
-              d.areas.apart (2 * (i * 2 ^ k) + x) (i * 2 ^ k + y) (omega (arith, fit)) (omega (arith, fit)) (omega (arith, o.lower_is, o.here_is));
-          lower_below = λ x h. rw (old x h) (d.filled i x more h);
+              o.ready.areas.apart (2 * (i * 2 ^ k) + x) (i * 2 ^ k + y) (omega (arith, fit)) (omega (arith, fit)) (omega (arith, lower_is, here_is));
+          lower_below = λ x h. rw (old x h) (o.ready.filled i x more h);
           here_below = λ x h.
-              let place : here + x ≡ target + (i * 2 ^ k + x) = omega (arith, o.here_is) in
+              let place : here + x ≡ target + (i * 2 ^ k + x) = omega (arith, here_is) in
               rw place (o.filled i x (omega arith) h);
         }
 
-    module _ {s : List ℕ} (t : TurnMade m k lower here b w s) where
+    module _ (pos : 0 < m) {s : List ℕ} (t : TurnMade m k lower here b w s) where
       stands : (j S : ℕ) → j < i → S < 2 ^ k → slots k target s j S ≡ slots k target w j S
       stands j S l h =
           let before = runs.row_in j i (2 ^ k) l in
-          t.rest (target + (j * 2 ^ k + S)) (omega (arith, rows, d.areas.target_behind)) (λ y g q. omega (arith, o.here_is))
+          t.rest (target + (j * 2 ^ k + S)) (omega (arith, rows, o.ready.areas.target_behind)) (λ y g q. omega (arith, here_is))
 
       here_at : (S : ℕ) → S < 2 ^ k → slots k target s i S ≡ (slots k target w i S + slots (suc k) source w₀ i (2 ^ k + S)) % m
       here_at S h =
-          let place : target + (i * 2 ^ k + S) ≡ here + S = omega (arith, o.here_is) in
+          let place : target + (i * 2 ^ k + S) ≡ here + S = omega (arith, here_is) in
           ap (at s) place ∙ t.added S h ∙ ap₂ (λ (x y : ℕ). (x + y) % m) (ap (at w) (sym place)) (old (2 ^ k + S) (omega arith))
 
       next-at : (S : ℕ) → S < 2 ^ k → slots k target s (suc i) S ≡ subset_sum k (slots (suc k) source w₀ i) (λ x. at b (2 ^ k + x)) S % m
       next-at S h =
-          let place : target + (suc i * 2 ^ k + S) ≡ here + (2 ^ k + S) = omega (arith, o.here_is) in
+          let place : target + (suc i * 2 ^ k + S) ≡ here + (2 ^ k + S) = omega (arith, here_is) in
           ap (at s) place ∙ t.next S h
           ∙ subset_mod k m _ (λ x. at b (2 ^ k + x)) (slots (suc k) source w₀ i) (λ x. at b (2 ^ k + x))
           (λ x l. ap (λ (y : ℕ). y % m) (old x (omega arith))) (λ x l. refl) S h
@@ -171,27 +174,27 @@ module _ {m n k source target : ℕ} {b w₀ : List ℕ} (d : LevelReady m n k s
           (λ (a : suc i ≤ j). let z : j ≡ suc i = omega arith in rw z (subst (λ (x : ℕ). x < m) (sym (next-at S h)) (mod-lt _ pos)))
           (below_or j (suc i))) (below_or j i)
 
-      pub turning_more : {size : ℕ} → size ≡ 2 ^ k → length s ≡ length w
-          → Turning m n k source target b w₀ (lower + size + size) (here + size) (i + 1) s
-      turning_more {size} e long = subst (λ (j : ℕ). Turning m n k source target b w₀ (lower + size + size) (here + size) j s) (sym (add-one i)) (record {
-        lower_is = omega (arith, o.lower_is);
-        here_is = omega (arith, o.here_is);
+      pub turning_more : length s ≡ length w → Turning m n k source target b lent w₀ (i + 1) s
+      turning_more long = subst (λ (j : ℕ). Turning m n k source target b lent w₀ j s) (sym (add-one i)) (record {
+        ready = o.ready;
+        zeros = o.zeros;
+        as_lent = o.as_lent;
         long = long ∙ o.long;
         kept = λ x h.
-            t.rest (source + x) (omega (arith, rows, d.areas.source_behind))
-            (λ y g q. d.areas.apart x (i * 2 ^ k + y) h (omega (arith, fit)) (omega (arith, o.here_is)))
+            t.rest (source + x) (omega (arith, rows, o.ready.areas.source_behind))
+            (λ y g q. o.ready.areas.apart x (i * 2 ^ k + y) h (omega (arith, fit)) (omega (arith, here_is)))
             ∙ o.kept x h;
         filled = filled_more;
         same = turn m k (at b) (slots (suc k) source w₀) i (slots k target w) (slots k target s) stands
             (λ S h. ap (λ (x : ℕ). x % m) (here_at S h) ∙ mod-mod _ m) (λ S h. ap (λ (x : ℕ). x % m) (next-at S h) ∙ mod-mod _ m) o.same;
       })
 
-pub level_made : {m n k source target : ℕ} {b w₀ : List ℕ} {lower here i : ℕ} {w : List ℕ}
-    → Turning m n k source target b w₀ lower here i w → i ≡ n - k → LevelMade m n k source target b w₀ w
-level_made {m} {k = k} {source} {target} {b} {w₀} {w = w} o z = record {
+pub level_made : {m n k source target : ℕ} {b lent w₀ : List ℕ} {i : ℕ} {w : List ℕ}
+    → LevelReady m n k source target b lent → Turning m n k source target b lent w₀ i w → i ≡ n - k → LevelMade m n k source target b lent w
+level_made {m} {k = k} {source} {target} {b} {w₀ = w₀} {w = w} d o z = level_from d o.zeros o.as_lent (record {
   filled = subst (λ (j : ℕ). Residues m k (suc j) target w) z o.filled;
   same = subst (λ (j : ℕ). Same m k (suc j) (slots k target w) (suc k) j (slots (suc k) source w₀) (at b)) z o.same;
-}
+})
 
 -- ---- all levels
 
@@ -205,24 +208,20 @@ pub record Projecting (m n : ℕ) (a b : List ℕ) (long k source target : ℕ) 
 
 module _ {m n : ℕ} {a b r w₀ : List ℕ} (d : Ready m n a b r w₀) where
   -- a is copied to the first area, which ends where the second begins
-  module _ {first second : ℕ} (e : first ≡ rows_length n) (stop : second ≡ first + 2 ^ n) where
+  module _ {first size second : ℕ} (e : first ≡ rows_length n) (many : size ≡ 2 ^ n) (stop : second ≡ first + size) where
     pub table_in : second ≤ length w₀
     table_in = omega (arith, d.room)
 
     many_entries : second - first ≡ 2 ^ n
     many_entries = omega arith
 
-    pub table_fits : length a ≡ length (take (second - first) (drop first w₀))
+    pub table_fits : length (take (second - first) (drop first w₀)) ≡ length a
     table_fits = omega (arith, d.left, mid_len first second w₀ table_in)
 
-    pub table_long : {new : List ℕ} → new ≡ a → length (put_mid first (second - first) w₀ new) ≡ length w₀
-    table_long {new} is = same_len_mid first (second - first) w₀ new (ap length is ∙ table_fits)
-
-    pub projecting_first : {new : List ℕ} → new ≡ a
-        → let w = put_mid first (second - first) w₀ new in Projecting m n a b (length w) n first second w
+    pub projecting_first : {new : List ℕ} → new ≡ a → Projecting m n a b (length w₀) n first second (put_mid first (second - first) w₀ new)
     projecting_first {new} is =
         let w : List ℕ = put_mid first (second - first) w₀ new in
-        let long : length w ≡ length w₀ = table_long is in
+        let long : length w ≡ length w₀ = same_len_mid first (second - first) w₀ new (ap length is ∙ sym table_fits) in
         let p : Placed (at new) first (second - first) w₀ w =
         part_placed first second w₀ new (omega arith) table_in (ap length is ∙ d.left ∙ sym many_entries) in
         let entry : (S : ℕ) → S < 2 ^ n → slots n first w 0 S ≡ at a S =
@@ -232,12 +231,12 @@ module _ {m n : ℕ} {a b r w₀ : List ℕ} (d : Ready m n a b r w₀) where
         let one : n - n ≡ 0 = omega arith in
         record {
           left = omega arith;
-          same_long = refl;
+          same_long = long;
           areas = record {
             source_behind = omega arith;
             target_behind = omega arith;
-            source_in = omega (arith, d.room, long);
-            target_in = omega (arith, d.room, long);
+            source_in = omega (arith, d.room);
+            target_in = omega (arith, d.room);
             apart = λ x y hx hy q. omega arith;
           };
           filled = λ i S l h. let z : i ≡ 0 = omega arith in rw z (subst (λ (x : ℕ). x < m) (sym (entry S h)) (d.left_below S h));

@@ -5,28 +5,24 @@
 
 ghost use Rattle.std.specs.Prelude.{◌≡◌};
 ghost use Rattle.definitions.specs.Projection.{projection_row};
-ghost use Rattle.residues.specs.Moduli.{Valid};
 ghost use Rattle.ranked_theory.specs.Rows.{Placed};
 ghost use Rattle.projection.specs.Places.{AddReady, sum_at, TurnReady, TurnMade};
 ghost use Rattle.projection.specs.Levels.{LevelReady, LevelMade, Ready};
 
-use pads::{clear, power_of_two};
-use pointwise::copy;
+use pads::power_of_two;
 use ranked_within::{multiply_within, rows_length};
 use residues::Modulus;
+use std::mem::swap;
 
-// The table of so many numbers at one place of the workspace is added to that at another.
+// The table of so many numbers at one place of the workspace is added to that at another. Either may stand first, so the loop goes by
+// places of the one slice.
 fn add_table(size: usize, modulus: Modulus, source: usize, target: usize, workspace: &mut [u32])
-    requires valid { Valid modulus }
-    requires add_ready { AddReady modulus.value size source target workspace.old }
+    requires { AddReady modulus.value size source target workspace.old }
     ensures { Placed (sum_at modulus.value source target workspace.old) target size workspace.old workspace.new }
 {
-    let mut i = 0;
-    while i < size {
-        let from = source + i;
+    for i in 0..size {
         let to = target + i;
-        workspace[to] = modulus.add(workspace[to], workspace[from]);
-        i += 1;
+        workspace[to] = modulus.add(workspace[to], workspace[source + i]);
     }
 }
 
@@ -40,8 +36,7 @@ fn next_table(
     here: usize,
     workspace: &mut [u32],
 )
-    requires valid { Valid modulus }
-    requires turn_ready { TurnReady modulus.value k lower here b.now workspace.old }
+    requires { TurnReady modulus.value k lower here b.now workspace.old }
     ensures { TurnMade modulus.value k lower here b.now workspace.old workspace.new }
 {
     let size = power_of_two(k);
@@ -64,22 +59,14 @@ fn next_level(
     target: usize,
     workspace: &mut [u32],
 )
-    requires valid { Valid modulus }
-    requires level_ready { LevelReady modulus.value n k source target b.now workspace.old }
+    requires { LevelReady modulus.value n k source target b.now workspace.old }
     ensures { LevelMade modulus.value n k source target b.now workspace.old workspace.new }
 {
     let size = power_of_two(k);
-    let count = n - k;
-    let end = target + size;
-    clear(size, &mut workspace[target..end]);
-    let mut lower = source;
-    let mut here = target;
-    let mut i = 0;
-    while i < count {
-        next_table(k, modulus, b, lower, here, workspace);
-        lower = lower + size + size;
-        here += size;
-        i += 1;
+    workspace[target..target + size].fill(0);
+    for i in 0..n - k {
+        let here = i * size;
+        next_table(k, modulus, b, source + 2 * here, target + here, workspace);
     }
 }
 
@@ -92,24 +79,18 @@ pub fn projection_row(
     res: &mut [u32],
     workspace: &mut [u32],
 )
-    requires valid { Valid modulus }
-    requires ready { Ready modulus.value n a.now b.now res.old workspace.old }
+    requires { Ready modulus.value n a.now b.now res.old workspace.old }
     ensures { res.new ≡ projection_row n modulus.value a.now b.now }
 {
     let size = power_of_two(n);
     let first = rows_length(n);
     let second = first + size;
-    copy(a, &mut workspace[first..second]);
+    workspace[first..second].copy_from_slice(a);
     let mut source = first;
     let mut target = second;
-    let mut k = n;
-    while 0 < k {
-        k -= 1;
+    for k in (0..n).rev() {
         next_level(n, k, modulus, b, source, target, workspace);
-        let free = source;
-        source = target;
-        target = free;
+        swap(&mut source, &mut target);
     }
-    let end = source + res.len();
-    copy(&workspace[source..end], res);
+    res.copy_from_slice(&workspace[source..source + res.len()]);
 }

@@ -24,9 +24,9 @@ use Rattle.series_rows.specs.InverseRows.{row_space, InverseRow}
 -- ---- one entry
 
 -- the product of residues is that of the numbers
-pub three_products : (m k u entry count t product c r : ℕ) → Residue m (k + 1) count → Residue m (u * entry) t → Residue m (count * t) product
+pub three_products : (m k u entry : ℕ) {count t product c r : ℕ} → Residue m (k + 1) count → Residue m (u * entry) t → Residue m (count * t) product
     → Residue m (0 + (m - 1)) c → Residue m (c * product) r → Residue m ((m - 1) * ((k + 1) * (u * entry))) r
-three_products m k u entry count t product c r a b d minus e = record {
+three_products m k u entry {count} {t} {product} {c} {r} a b d minus e = record {
   below = e.below;
   same = e.same ∙ mod-mul m c product (m - 1) ((k + 1) * (u * entry)) (reduced (0 + (m - 1)) minus ∙ ap (λ (x : ℕ). x % m) (zero-add (m - 1)))
       (reduced (count * t) d ∙ mod-mul m count t (k + 1) (u * entry) (reduced (k + 1) a) (reduced (u * entry) b));

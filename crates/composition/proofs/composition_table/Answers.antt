@@ -1,16 +1,16 @@
-use Prim.Native.Nat.{◌-◌}
-use Rattle.composition.proofs.Levels.{row_fits, composing_first, level_ready, composing_more, composed}
+use mathlib.Core.Path.{refl}
+use native.Mathlib.Omega.{arith}
+use Rattle.composition.proofs.Levels.{row_in, composing_first, level_ready, composing_more, composed}
 use Rattle.composition.proofs.composition_table.Goals as goal
 
-pub copy_entries-requires : goal.copy_entries-requires
-copy_entries-requires c = row_fits c.rows_length-start.ensures c.requires.ready c.requires.row_ready
+pub slice_bounds-copy_from_slice-end : goal.slice_bounds-copy_from_slice-end
+slice_bounds-copy_from_slice-end c = omega (arith, row_in c.rows_length-start.ensures c.requires.ready c.requires.row_ready refl)
 
 pub loop-k-init : goal.loop-k-init
-loop-k-init c = let copied = c.copy_entries in
-    composing_first c.rows_length-start.ensures c.requires.ready c.requires.row_ready _ copied.ensures copied.auto.to
+loop-k-init c = composing_first c.rows_length-start.ensures c.requires.ready c.requires.row_ready refl c.copy_from_slice.ensures.after
 
 pub next_level-requires : goal.next_level-requires
-next_level-requires c = record { valid = c.requires.valid; level_ready = level_ready c.rows_length-start.ensures c.requires.ready c.requires.row_ready c.loop-k.invariant c.loop-k-test.true }
+next_level-requires c = level_ready c.rows_length-start.ensures c.requires.ready c.requires.row_ready c.loop-k.invariant c.loop-k-test.true
 
 pub loop-k-preserved : goal.loop-k-preserved
 loop-k-preserved c = let made = c.next_level in

@@ -3,7 +3,4 @@ use Rattle.projection.proofs.Levels.{Projecting}
 use Rattle.projection.proofs.projection_row.Given as goal
 
 abbrev pub invariant-loop-k : goal.invariant-loop-k
-invariant-loop-k l = Projecting l.modulus.value l.n l.a l.b (length l.initial.workspace) l.k l.source l.target l.workspace
-
-abbrev pub decreases-loop-k : goal.decreases-loop-k
-decreases-loop-k l = l.k
+invariant-loop-k l = Projecting l.modulus.value l.n l.a l.b (length l.fn.workspace) l.k l.source l.target l.workspace

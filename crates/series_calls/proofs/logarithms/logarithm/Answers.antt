@@ -1,60 +1,47 @@
-use Prim.Native.Nat.{ℕ}
-use native.Mathlib.Nat.{le_refl}
-use native.Mathlib.Omega.{arith}
-use lib.ListN.{length}
+use Rattle.std.proofs.Common.{arith, refl, le_refl, ℕ, sym, ap, ◌∙◌}
+use Rattle.checks.specs.Answers.{passed, stands_in}
+use Rattle.checks.specs.Ends.{lent_for, used_in, part_long, clear_fits, front_cleared, accepted_call}
 use Rattle.definitions.specs.Refusals.{logarithm_number}
 use Rattle.theory.specs.Logarithm.{logarithm_of}
-use Rattle.checks.specs.Accepted.{Single}
-use Rattle.checks.specs.Answers.{accepted}
-use Rattle.checks.specs.Ends.{Lent, used_in, part_long, clear_fits, front_cleared, accepted_call, refused_call}
 use Rattle.composition.specs.Results.{result_ready, result_taken}
 use Rattle.composition_calls.specs.Cores.{started, front, ready}
 use Rattle.series_calls.proofs.Logging.{is_logarithm}
 use Rattle.series_calls.proofs.logarithms.logarithm.Goals as goal
 
 pub pad_length-used-requires : goal.pad_length-used-requires
-pad_length-used-requires c =
-    let found : let s = c.args in Single s.n s.m s.e.now (length s.res.now) (length s.pad.now) = started _ _ _ _ _ _ (accepted c.check_start.ensures c.in-Accepted.is) in (found).range.few
+pad_length-used-requires c = let found = started _ _ _ _ _ _ (passed c.in_ok-modulus.ensures) in found.range.few
 
 pub slice_bounds-logarithm_table-end : goal.slice_bounds-logarithm_table-end
-slice_bounds-logarithm_table-end c =
-    let lent : let s = c.args in Lent s.n c.pad_length-used.result s.pad.now = let found : let s = c.args in Single s.n s.m s.e.now (length s.res.now) (length s.pad.now) = started _ _ _ _ _ _ (accepted c.check_start.ensures c.in-Accepted.is) in record { used_is = c.pad_length-used.ensures; room = (found).pad } in used_in (lent)
+slice_bounds-logarithm_table-end c = let found = started _ _ _ _ _ _ (passed c.in_ok-modulus.ensures) in used_in (lent_for c.pad_length-used.ensures found.pad)
 
-pub slice_bounds-logarithm_table-end-in-Accepted : goal.slice_bounds-logarithm_table-end-in-Accepted
-slice_bounds-logarithm_table-end-in-Accepted c =
-    let lent : let s = c.args in Lent s.n c.pad_length-used.result s.pad.now = let found : let s = c.args in Single s.n s.m s.e.now (length s.res.now) (length s.pad.now) = started _ _ _ _ _ _ (accepted c.check_start.ensures c.in-Accepted.is) in record { used_is = c.pad_length-used.ensures; room = (found).pad } in part_long (lent) (le_refl _)
+pub slice_bounds-logarithm_table-end-2 : goal.slice_bounds-logarithm_table-end-2
+slice_bounds-logarithm_table-end-2 c = let found = started _ _ _ _ _ _ (passed c.in_ok-modulus.ensures) in part_long (lent_for c.pad_length-used.ensures found.pad) (le_refl _)
 
 pub logarithm_table-requires : goal.logarithm_table-requires
 logarithm_table-requires c =
-    let lent : let s = c.args in Lent s.n c.pad_length-used.result s.pad.now = let found : let s = c.args in Single s.n s.m s.e.now (length s.res.now) (length s.pad.now) = started _ _ _ _ _ _ (accepted c.check_start.ensures c.in-Accepted.is) in record { used_is = c.pad_length-used.ensures; room = (found).pad } in
-    let found : let s = c.args in Single s.n s.m s.e.now (length s.res.now) (length s.pad.now) = started _ _ _ _ _ _ (accepted c.check_start.ensures c.in-Accepted.is) in let s = c.check_start.ensures.stands _ c.in-Accepted.is in record { valid = s.valid; ready = ready (lent) (found) s }
+    let found = started _ _ _ _ _ _ (passed c.in_ok-modulus.ensures) in
+    let lent = lent_for c.pad_length-used.ensures found.pad in
+    ready lent found (stands_in c.in_ok-modulus.ensures)
 
 pub take_result-requires : goal.take_result-requires
 take_result-requires c =
-    let lent : let s = c.args in Lent s.n c.pad_length-used.result s.pad.now = let found : let s = c.args in Single s.n s.m s.e.now (length s.res.now) (length s.pad.now) = started _ _ _ _ _ _ (accepted c.check_start.ensures c.in-Accepted.is) in record { used_is = c.pad_length-used.ensures; room = (found).pad } in
-    let found : let s = c.args in Single s.n s.m s.e.now (length s.res.now) (length s.pad.now) = started _ _ _ _ _ _ (accepted c.check_start.ensures c.in-Accepted.is) in let made = c.logarithm_table in
-    let facts = found in
-    result_ready (front (lent) facts) made.new.workspace made.auto.workspace _ facts.result
+    let found = started _ _ _ _ _ _ (passed c.in_ok-modulus.ensures) in
+    let lent = lent_for c.pad_length-used.ensures found.pad in
+    let made = c.logarithm_table in
+    result_ready (front lent found) made.new.workspace made.auto.workspace _ found.result
 
 pub clear-requires : goal.clear-requires
 clear-requires c =
-    let lent : let s = c.args in Lent s.n c.pad_length-used.result s.pad.now = let found : let s = c.args in Single s.n s.m s.e.now (length s.res.now) (length s.pad.now) = started _ _ _ _ _ _ (accepted c.check_start.ensures c.in-Accepted.is) in record { used_is = c.pad_length-used.ensures; room = (found).pad } in omega (arith, clear_fits (lent) (le_refl _) c.logarithm_table.new.workspace c.logarithm_table.auto.workspace)
+    let found = started _ _ _ _ _ _ (passed c.in_ok-modulus.ensures) in
+    omega (arith, clear_fits (lent_for c.pad_length-used.ensures found.pad) (le_refl _) c.logarithm_table.new.workspace c.logarithm_table.auto.workspace)
 
-pub returns-in-Accepted : goal.returns-in-Accepted
+pub returns : goal.returns
 unfolding logarithm_number
-returns-in-Accepted c =
-    let lent : let s = c.args in Lent s.n c.pad_length-used.result s.pad.now = let found : let s = c.args in Single s.n s.m s.e.now (length s.res.now) (length s.pad.now) = started _ _ _ _ _ _ (accepted c.check_start.ensures c.in-Accepted.is) in record { used_is = c.pad_length-used.ensures; room = (found).pad } in
-    let found : let s = c.args in Single s.n s.m s.e.now (length s.res.now) (length s.pad.now) = started _ _ _ _ _ _ (accepted c.check_start.ensures c.in-Accepted.is) in let made = c.logarithm_table in
-    let s = c.args in
-    let h = c.check_start.ensures in
-    let e = c.in-Accepted.is in
-    let end = accepted_call h e (λ (m : ℕ). logarithm_of s.n m s.e.now)
-    (result_taken (front (lent) (found)) _ made.auto.workspace made.ensures c.take_result.ensures)
-    _ _ (front_cleared (lent) (le_refl _) made.new.workspace made.auto.workspace c.clear.ensures) in record { value = end.0; res_after = end.1.0; logarithm = (λ z. is_logarithm _ _ _ _ _ (accepted h e) end.1.0); pad_after = end.1.1 }
-
-pub returns-in-Refused : goal.returns-in-Refused
-unfolding logarithm_number
-returns-in-Refused c = let s = c.args in
-    let h = c.check_start.ensures in
-    let e = c.in-Refused.is in
-    let end = refused_call h e (logarithm_of s.n s.m s.e.now) s.res.now s.n s.pad.now in record { value = end.0; res_after = end.1.0; logarithm = (λ z. absurd (h.word _ e z)); pad_after = end.1.1 }
+returns c = let s = c.args in
+    let found = started _ _ _ _ _ _ (passed c.in_ok-modulus.ensures) in
+    let lent = lent_for c.pad_length-used.ensures found.pad in
+    let made = c.logarithm_table in
+    let end = accepted_call c.in_ok-modulus.ensures refl (λ (m : ℕ). logarithm_of s.n m s.e.now)
+    (result_taken (front lent found) _ made.auto.workspace made.ensures c.take_result.ensures)
+    _ _ (front_cleared lent (le_refl _) made.new.workspace made.auto.workspace c.clear.ensures) in
+    record { value = end.0; res_after = end.1.0; logarithm = (λ z. is_logarithm _ _ _ _ _ (passed c.in_ok-modulus.ensures) end.1.0); pad_after = end.1.1 }
