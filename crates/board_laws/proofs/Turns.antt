@@ -10,6 +10,8 @@ use Rattle.definitions.specs.Sums.{at}
 use Rattle.definitions.specs.Boards.{Board, board, added_at, raised_over, lowered_over, lacking, fresh_board, fresh_number, change_number, board_after, Change, number_on, changed, next, run, run_numbers}
 use Rattle.board_theory.specs.Moves.{table_by_table}
 use Rattle.board_theory.specs.Runs.{run_more, numbers_more, numbers_length}
+use Rattle.board_laws.specs.Kinds.{kind_of}
+use Rattle.board_laws.specs.declared.Kind.TheVariants.{Add, Take}
 use Rattle.board_laws.specs.Law.{change_of, changes_of, Calls, ChangeMade, written, ChangesMade, Run}
 
 -- table by table
@@ -31,19 +33,22 @@ module _ (n m : ℕ) (x : Change) (b : Board) where
     board = board_after_lem r (changed n m b x) b p q s ∙ ap (λ (k : ℕ). board_after k (changed n m b x) b) e;
   }
 
+-- of a lent kind, as it was read
 module _ (n m : ℕ) (kind S c : ℕ) (b : Board) {r : ℕ} {A E I : List ℕ} (e : r ≡ change_number n m S c b) where
-  pub made_add : kind ≡ 0 → A ≡ after r (added_at n m S c b.weights) b.weights
+  pub made_add : kind_of kind ≡ Add → A ≡ after r (added_at n m S c b.weights) b.weights
       → E ≡ after r (raised_over n m S c b.exponential) b.exponential → I ≡ after r (lowered_over n m S c b.inverse) b.inverse
       → ChangeMade n m (change_of kind S c) b r (board A E I)
-  made_add z p q s =
-      subst (λ (k : ℕ). ChangeMade n m (change_of k S c) b r (board A E I)) (sym z) (made n m (change_of 0 S c) b e p q s)
+  made_add is p q s = by kind is where
+    by : (k : ℕ) → kind_of k ≡ Add → ChangeMade n m (change_of k S c) b r (board A E I)
+    by zero d = made n m (change_of 0 S c) b e p q s
+    by (suc k) d = cc
 
-  pub made_take : (kind ≡ 0 → ⊥) → A ≡ after r (added_at n m S (lacking m c) b.weights) b.weights
+  pub made_take : kind_of kind ≡ Take → A ≡ after r (added_at n m S (lacking m c) b.weights) b.weights
       → E ≡ after r (raised_over n m S (lacking m c) b.exponential) b.exponential → I ≡ after r (raised_over n m S c b.inverse) b.inverse
       → ChangeMade n m (change_of kind S c) b r (board A E I)
-  made_take d p q s = by kind d where
-    by : (k : ℕ) → (k ≡ 0 → ⊥) → ChangeMade n m (change_of k S c) b r (board A E I)
-    by zero d = absurd (d refl)
+  made_take is p q s = by kind is where
+    by : (k : ℕ) → kind_of k ≡ Take → ChangeMade n m (change_of k S c) b r (board A E I)
+    by zero d = cc
     by (suc k) d = made n m (change_of (suc k) S c) b e p q s
 
 -- ---- the numbers that are kept
@@ -96,8 +101,8 @@ module _ (kinds sets weights : List ℕ) where
         numbers = numbers_kept;
       }
 
-      pub one_more_made : {now : List ℕ} → now ≡ set kept i r → Turn (i + 1) now d
-      one_more_made e = rw (e, add-one i) more
+      pub one_more_made : {number : ℕ} {now : List ℕ} → number ≡ r → now ≡ set kept i number → Turn (i + 1) now d
+      one_more_made f e = rw (e, f, add-one i) more
 
 -- ---- the fresh board before it
 

@@ -1,2 +1,3 @@
+pub mod Kinds
 pub mod Law
 pub mod Theorem

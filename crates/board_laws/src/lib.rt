@@ -1,19 +1,32 @@
 // The law of boards: a fresh board and then any list of changes, whatever the lent memory held.
 #![tactic(auto)]
 
-ghost use Rattle.std.specs.Prelude.{◌≡◌, min, set};
+ghost use Rattle.std.specs.Prelude.{◌≡◌, set};
 ghost use Rattle.definitions.specs.Boards.{board};
+ghost use Rattle.refusals.specs.Words.{word_of};
+ghost use Rattle.board_laws.specs.Kinds.{kind_of};
 ghost use Rattle.board_laws.specs.Law.{change_of, lent_changes, ChangeMade, ChangesMade, Lawful};
 
 use board_calls::{board_add, board_fresh, board_take};
+use refusals::Refusal;
 
-fn least(x: usize, y: usize) -> usize
-    ensures { result ≡ min x y }
-{
-    if x < y { x } else { y }
+// What a change does with its weight.
+#[derive(Clone, Copy)]
+enum Kind {
+    Add,
+    Take,
 }
 
-// One change: kind 0 adds, every other takes.
+// A lent list holds numbers: 0 adds, every other takes.
+impl From<u32> for Kind {
+    ghost from_gives = { λ number kind. kind ≡ kind_of number };
+
+    fn from(number: u32) -> Kind {
+        if number == 0 { Kind::Add } else { Kind::Take }
+    }
+}
+
+// One change, of a lent kind.
 fn make_change(
     n: u32,
     m: u32,
@@ -23,22 +36,21 @@ fn make_change(
     a: &mut [u32],
     e: &mut [u32],
     i: &mut [u32],
-) -> u32
-    ensures { ChangeMade n m (change_of kind set weight) (board a.old e.old i.old) result (board a.new e.new i.new) }
+) -> Result<(), Refusal>
+    ensures { ChangeMade n m (change_of kind set weight) (board a.old e.old i.old) (word_of result) (board a.new e.new i.new) }
 {
-    if kind == 0 {
-        board_add(n, m, set, weight, a, e, i)
-    } else {
-        board_take(n, m, set, weight, a, e, i)
+    match Kind::from(kind) {
+        Kind::Add => board_add(n, m, set, weight, a, e, i),
+        Kind::Take => board_take(n, m, set, weight, a, e, i),
     }
 }
 
-// The number at its place, if there is room for it.
-fn keep(number: u32, i: usize, numbers: &mut [u32])
-    ensures { numbers.new ≡ set numbers.old i number }
+// The number at its place, if there is room for it. (Of what is written by `get_mut` a proof would know the length alone.)
+fn keep(number: u32, k: usize, numbers: &mut [u32])
+    ensures { numbers.new ≡ set numbers.old k number }
 {
-    if i < numbers.len() {
-        numbers[i] = number;
+    if k < numbers.len() {
+        numbers[k] = number;
     }
 }
 
@@ -57,19 +69,14 @@ fn make_changes(
     ensures { ChangesMade n m (lent_changes kinds.now sets.now weights.now)
         (board a.old e.old i.old) (board a.new e.new i.new) numbers.old numbers.new }
 {
-    let count = least(least(kinds.len(), sets.len()), weights.len());
-    let mut k = 0;
-    while k < count {
-        let kind = kinds[k];
-        let set = sets[k];
-        let weight = weights[k];
-        let number = make_change(n, m, kind, set, weight, a, e, i);
-        keep(number, k, numbers);
-        k += 1;
+    let count = kinds.len().min(sets.len()).min(weights.len());
+    for k in 0..count {
+        let change = make_change(n, m, kinds[k], sets[k], weights[k], a, e, i);
+        keep(refusals::number(change), k, numbers);
     }
 }
 
-// Makes a fresh board in a, e and i and returns its number; then makes the changes of three lists of any length, of which the shortest
+// Makes a fresh board in a, e and i, for which it answers; then makes the changes of three lists of any length, of which the shortest
 // counts. Kind 0 adds, every other takes. The number of each is kept as far as there is room.
 pub fn board_law(
     n: u32,
@@ -81,12 +88,12 @@ pub fn board_law(
     a: &mut [u32],
     e: &mut [u32],
     i: &mut [u32],
-) -> u32
+) -> Result<(), Refusal>
     ensures { Lawful n m (record {
       changes = lent_changes kinds.now sets.now weights.now;
       found = board a.old e.old i.old;
       left = board a.new e.new i.new;
-      fresh = result;
+      fresh = word_of result;
       lent = numbers.old;
       kept = numbers.new;
     }) }

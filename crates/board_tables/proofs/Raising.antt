@@ -4,13 +4,12 @@ use mathlib.Core.Bool.{Bool, true, false, cond}
 use mathlib.Core.List.{List}
 use mathlib.Core.Logic.{◌≢◌, ⊎_elim}
 use Prim.Native.Nat.{ℕ, ◌+◌, ◌*◌, ◌-◌, ◌%◌, ◌^◌, ◌<◌, ◌≤◌}
-use native.Mathlib.Nat.{mod-lt, mod-eq_of_lt, add-zero, lt_of_le_of_lt, mul-le-mul}
+use native.Mathlib.Nat.{mod-lt, mod-eq_of_lt, add-zero}
 use native.Mathlib.Omega.{arith}
 use borrow.Author.Tests.{lt-ltb, le-ltb, eq-eqb, ne_eqb}
 use lib.Bits.{bit_and, bit_or, and_self, and_le_r}
-use lib.Dec.{ltb, eqb, lit<}
+use lib.Dec.{ltb, eqb}
 use lib.ListN.{length, set, length-set}
-use Rattle.definitions.specs.Limits.{largest_modulus}
 use Rattle.definitions.specs.Sums.{tabulate, at}
 use Rattle.definitions.specs.Sets.{inside, without}
 use Rattle.definitions.specs.Products.{residues}
@@ -23,13 +22,6 @@ use Rattle.residues.specs.declared.Modulus.{Modulus}
 use Rattle.checks.specs.Accepted.{IsTable}
 use Rattle.board_tables.specs.Ready.{TableReady, BoardReady}
 use Rattle.board_tables.proofs.Supersets.{next_contains, next_above, next_least}
-
--- a product of two residues leaves room for one more residue
-pub product_small : {m a b : ℕ} → a < m → b < m → m ≤ largest_modulus → a * b < 2 ^ 64 - 2 ^ 32
-product_small {m} {a} {b} p q h =
-    let x : a ≤ 4294967294 = omega arith in
-    let y : b ≤ 4294967294 = omega arith in
-    lt_of_le_of_lt (mul-le-mul x y) (lit< tt)
 
 -- the new entry of T, and what T has when the loop is at t
 unfoldable pub raised_entry : ℕ → ℕ → ℕ → List ℕ → ℕ → ℕ
@@ -72,7 +64,7 @@ module _ {n : ℕ} {modulus : Modulus} {S c : ℕ} {r : List ℕ} (h : TableRead
   unfolding raised_to raised_entry
   to_small t T = by (ltb T t) where
     by : (b : Bool) → cond b (raised_entry m S c r T) (at r T) < m
-    by true = mod-lt _ (omega (arith, h.valid.lowest))
+    by true = mod-lt _ (omega (arith, modulus.valid.lowest))
     by false = h.table.below T
 
   -- no set below S contains it
@@ -92,7 +84,7 @@ module _ {n : ℕ} {modulus : Modulus} {S c : ℕ} {r : List ℕ} (h : TableRead
 
     -- what stands there at any time is a residue
     pub small : (i : ℕ) → at l i < m
-    small = below_anywhere m l (omega (arith, h.valid.lowest)) (at_below m l (λ i k.
+    small = below_anywhere m l (omega (arith, modulus.valid.lowest)) (at_below m l (λ i k.
         let j : i < 2 ^ n = omega (arith, p.size, h.table.size) in
         omega (arith, ap (λ (u : List ℕ). at u i) p.is, at-tabulate (2 ^ n) (raised_to m S c r t) i j, to_small t i)))
 

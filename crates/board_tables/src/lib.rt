@@ -5,17 +5,17 @@ ghost use Rattle.std.specs.Prelude.{◌≡◌, ◌+◌, ◌*◌, ◌<◌, length
 ghost use Rattle.definitions.specs.Sums.{tabulate};
 ghost use Rattle.definitions.specs.Partitions.{unit};
 ghost use Rattle.definitions.specs.Boards.{board, added_at, raised_over};
-ghost use Rattle.residues.specs.Moduli.{Valid, Below, Residue};
+ghost use Rattle.residues.specs.Moduli.{Below, Residue};
 ghost use Rattle.board_tables.specs.Ready.{TableReady, BoardReady};
 
 use pads::power;
 use residues::Modulus;
 
-// 0 everywhere.
+// 0 everywhere: `fill` in the words of a board.
 pub fn fill_zeros(table: &mut [u32])
     ensures { table.new ≡ tabulate (length table.old) (λ S. 0) }
 {
-    pads::clear(table.len(), table);
+    table.fill(0);
 }
 
 // 1 at the empty set and 0 elsewhere.
@@ -29,7 +29,6 @@ pub fn fill_unit(table: &mut [u32])
 
 // x and a product, with one division: there is room for one more residue beside a product of two.
 fn add_product(modulus: Modulus, x: u32, a: u32, b: u32) -> u32
-    requires valid { Valid modulus }
     requires below { Below modulus.value a b }
     requires x_lt_value { x < modulus.value }
     ensures { Residue modulus.value (x + a * b) result }

@@ -1,13 +1,14 @@
-use Rattle.board_laws.proofs.Turns.{made_add, made_take}
+use Rattle.std.proofs.Common.{sym, ◌∙◌}
 use Rattle.definitions.specs.Boards.{board}
+use Rattle.board_laws.proofs.Turns.{made_add, made_take}
 use Rattle.board_laws.proofs.make_change.Goals as goal
 
-pub returns-then-kind-eq0 : goal.returns-then-kind-eq0
-returns-then-kind-eq0 c = let s = c.args in
+pub returns-in-Add : goal.returns-in-Add
+returns-in-Add c = let s = c.args in
     let r = c.board_add.ensures in
-    made_add s.n s.m s.kind s.set s.weight (board s.a.now s.e.now s.i.now) r.value c.if-kind-eq0.true r.a_after r.e_after r.i_after
+    made_add s.n s.m s.kind s.set s.weight (board s.a.now s.e.now s.i.now) r.value (sym c.from.ensures ∙ c.in-Add.is) r.a_after r.e_after r.i_after
 
-pub returns-else-kind-eq0 : goal.returns-else-kind-eq0
-returns-else-kind-eq0 c = let s = c.args in
+pub returns-in-Take : goal.returns-in-Take
+returns-in-Take c = let s = c.args in
     let r = c.board_take.ensures in
-    made_take s.n s.m s.kind s.set s.weight (board s.a.now s.e.now s.i.now) r.value c.if-kind-eq0.false r.a_after r.e_after r.i_after
+    made_take s.n s.m s.kind s.set s.weight (board s.a.now s.e.now s.i.now) r.value (sym c.from.ensures ∙ c.in-Take.is) r.a_after r.e_after r.i_after

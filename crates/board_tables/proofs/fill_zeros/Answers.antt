@@ -1,5 +1,7 @@
-use Rattle.board_tables.proofs.Fresh.{cleared_all}
+use mathlib.Core.Path.{◌∙◌}
+use borrow.Author.Rules.{rules}
+use Rattle.board_tables.proofs.Fresh.{zeros}
 use Rattle.board_tables.proofs.fill_zeros.Goals as goal
 
 pub returns : goal.returns
-returns c = cleared_all c.args.table.now c.clear.ensures
+returns c = c.fill.ensures.after (λ y e. search rules) ∙ zeros _
