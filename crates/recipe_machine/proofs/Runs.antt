@@ -43,6 +43,12 @@ pub space_still : {n height h : ℕ} {result pad result' pad' : List ℕ} → Sp
     → length result' ≡ length result → length pad' ≡ length pad → Space n h result' pad'
 space_still space within lr lp = record { few = space.few; within = within; long = lr ∙ space.long; room = rw lp space.room }
 
+-- a step by its word's name
+pub stepped_as : {n m : ℕ} {by : Choice n m} {tables : Letter → List ℕ} {i : Instruction} {height : ℕ} {result pad : List ℕ} {word w : ℕ} {result' pad' : List ℕ}
+    → word ≡ w → Stepped n m by tables i height result pad word result' pad' → Stepped n m by tables i height result pad w result' pad'
+stepped_as {n} {m} {by} {tables} {i} {height} {result} {pad} {result' = result'} {pad' = pad'} e s =
+    subst (λ (k : ℕ). Stepped n m by tables i height result pad k result' pad') e s
+
 no_other : (i : Instruction) (h : ℕ) → Can i h → i ≡ other → ⊥
 no_other i h can e = subst (λ (j : Instruction). Can j h) e can
 
@@ -90,13 +96,12 @@ module _ {n : ℕ} {modulus : Modulus} {tables : Letter → List ℕ} {codes res
       pub goes_on : ((x : Letter) → IsTable n m (tables x)) → {h : ℕ} → h ≡ height_after (meant_by next) height
           → length result' ≡ length result → length pad' ≡ length pad → Working n modulus tables codes result₀ pad₀ (i + 1) h result' pad'
       goes_on are f lr lp =
-          let valid = so_far.ready.valid in
+          let valid = modulus.valid in
           let range : InRange n m = record { few = so_far.ready.space.few; lowest = valid.lowest; largest = valid.largest } in
           let some = the_choice n m in
           rw f (record {
             far = omega arith;
             ready = record {
-              valid = valid;
               space = space_still so_far.ready.space (height_within (meant_by next) height (can_next next e) so_far.ready.space.within) lr lp;
               values = step_tables some tables range are code (stack_of n height result pad) so_far.ready.values (given some);
             };

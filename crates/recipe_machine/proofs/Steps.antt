@@ -126,14 +126,14 @@ module _ {n m : ℕ} (by : Choice n m) (tables : Letter → List ℕ) where
 -- ---- what the operations are lent
 
 module _ {n : ℕ} {modulus : Modulus} where
-  pub operands : {place : ℕ} {result pad : List ℕ} (height : ℕ) → 2 ≤ height → Ready n modulus height result pad → place ≡ place_of n (height - 1) → Operands n modulus place result pad
+  pub operands : {place : ℕ} {result pad : List ℕ} (height : ℕ) → 2 ≤ height → Ready n modulus height result pad → place ≡ place_of n (height - 1)
+      → Operands n modulus place result pad
   operands zero two r e = absurd (omega arith)
   operands (suc zero) two r e = absurd (omega arith)
   operands {place} {result} {pad} (suc (suc h)) two r e =
       let at_place : place ≡ place_of n (suc h) = e ∙ ap (λ (k : ℕ). place_of n k) (let one : suc (suc h) - 1 ≡ suc h = omega arith in one) in
       record {
         few = r.space.few;
-        valid = r.valid;
         left = rw at_place r.values.1.0;
         right = r.values.0;
         behind = omega arith;
@@ -144,4 +144,4 @@ module _ {n : ℕ} {modulus : Modulus} where
   unfolding recipe_pad_length
   operand zero one r = absurd (omega arith)
   operand (suc h) one r =
-      record { few = r.space.few; valid = r.valid; table = r.values.0; room = omega (arith, r.space.room) }
+      record { few = r.space.few; table = r.values.0; room = omega (arith, r.space.room) }

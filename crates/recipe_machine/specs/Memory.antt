@@ -4,7 +4,6 @@ use Rattle.std.specs.Prelude.{◌≡◌, List, [], ◌∷◌, ℕ, zero, suc, �
 use Rattle.definitions.specs.Limits.{most_controls, pad_length, recipe_pad_length}
 use Rattle.definitions.specs.Outcomes.{Outcome, accepted, unless, number_of, value_or}
 use Rattle.definitions.specs.Recipes.{Letter, tableA, tableB, tableC, tableD, Choice, lettered}
-use Rattle.residues.specs.Moduli.{Valid}
 use Rattle.residues.specs.declared.Modulus.{Modulus}
 use Rattle.checks.specs.Accepted.{IsTable}
 use Rattle.ranked_within.specs.Within.{table_at}
@@ -12,6 +11,7 @@ use Rattle.recipe_theory.specs.Stack.{Stack, Instruction, push, combine, apply, 
 use Rattle.recipe_operations.specs.Codes.{sign_of, opening_of}
 use Rattle.recipe_machine.specs.declared.Name.{Name}
 use Rattle.recipe_machine.specs.declared.Name.TheVariants.{A, B, C, D}
+use Rattle.recipe_machine.specs.declared.Tables.{Tables}
 use Rattle.recipe_machine.specs.declared.Code.{Code}
 use Rattle.recipe_machine.specs.declared.Code.TheVariants.{Push, Combine, Apply}
 
@@ -66,13 +66,16 @@ pub record Space (n height : ℕ) (result pad : List ℕ) : Type 0 where
 
 -- the values are tables of residues
 pub record Ready (n : ℕ) (modulus : Modulus) (height : ℕ) (result pad : List ℕ) : Type 0 where
-  pub valid : Valid modulus
   pub space : Space n height result pad
   pub values : AllTables n modulus.value (stack_of n height result pad)
 
--- the lent tables are
-abbrev pub Lettered : ℕ → ℕ → List ℕ → List ℕ → List ℕ → List ℕ → Type 0
-Lettered n m a b c d = (x : Letter) → IsTable n m (lettered a b c d x)
+-- the lent tables, each by its letter
+abbrev pub lent : Tables → Letter → List ℕ
+lent tables = lettered tables.a.now tables.b.now tables.c.now tables.d.now
+
+-- they are tables of residues
+abbrev pub Lettered : ℕ → ℕ → (Letter → List ℕ) → Type 0
+Lettered n m tables = (x : Letter) → IsTable n m (tables x)
 
 -- the stack that it leaves, or the word of its refusal; what the result held at first is still there
 pub record Stepped (n m : ℕ) (by : Choice n m) (tables : Letter → List ℕ) (i : Instruction) (height : ℕ) (result pad : List ℕ) (word : ℕ) (result' pad' : List ℕ) : Type 0 where

@@ -4,19 +4,21 @@
 
 ghost use Rattle.std.specs.Prelude.{◌≡◌, ◌≤◌, ◌^◌, length};
 ghost use Rattle.definitions.specs.Limits.{most_controls};
-ghost use Rattle.definitions.specs.Recipes.{Letter, Tree, sum, Choice, lettered, worth};
+ghost use Rattle.definitions.specs.Recipes.{Letter, Tree, sum, Choice, worth};
+ghost use Rattle.refusals.specs.Words.{word_of};
 ghost use Rattle.recipe_theory.specs.Postfix.{postfix};
 ghost use Rattle.recipe_theory.specs.Stack.{instruction_of, other, Can, height_after, Fits};
 ghost use Rattle.recipe_operations.specs.Operands.{Saved};
-ghost use Rattle.recipe_machine.specs.Memory.{letter_of, meant_by, place_of, first_held, Space, Ready, Lettered, Stepped, Worked};
+ghost use Rattle.recipe_machine.specs.Memory.{letter_of, lent, meant_by, place_of, first_held, Space, Ready, Lettered, Stepped, Worked};
 
 use pads::{pad_length, power};
 use pointwise::copy;
 use recipe_operations::{Function, Sign, apply, combine, restore, save};
+use refusals::Refusal;
 use residues::Modulus;
 
 // The names of the lent tables.
-#[derive(Clone, Copy)]
+#[derive(Clone, Copy, Debug, PartialEq, Eq)]
 pub enum Name {
     A,
     B,
@@ -24,14 +26,38 @@ pub enum Name {
     D,
 }
 
+// The lent tables.
 #[derive(Clone, Copy)]
+pub struct Tables<'a> {
+    pub a: &'a [u32],
+    pub b: &'a [u32],
+    pub c: &'a [u32],
+    pub d: &'a [u32],
+}
+
+impl<'a> Tables<'a> {
+    fn named(self, name: Name) -> &'a [u32]
+        ensures { result.now ≡ lent self.entry (letter_of name) }
+    {
+        match name {
+            Name::A => self.a,
+            Name::B => self.b,
+            Name::C => self.c,
+            Name::D => self.d,
+        }
+    }
+}
+
+#[derive(Clone, Copy, Debug, PartialEq, Eq)]
 pub enum Code {
     Push(Name),
     Combine(Sign),
     Apply(Function),
 }
 
-// What a byte of code means.
+// What a byte of code means. (The reader writes bytes, and its theory speaks of them. No `TryFrom`: only bytes with a meaning
+// come here, so that its refusal would be a way out that no run takes.)
+#[tactic(auto, unfolding(recipe_theory::specs::Stack::instruction_of))]
 fn code_of(byte: u8) -> Code
     requires { instruction_of byte ≡ other → ⊥ }
     ensures { instruction_of byte ≡ meant_by result }
@@ -75,53 +101,35 @@ pub fn place_of(n: u32, k: usize) -> usize
 }
 
 // A lent table on top of the stack: what was on top goes to the place of its height.
-fn push(
-    name: Name,
-    n: u32,
-    height: usize,
-    a: &[u32],
-    b: &[u32],
-    c: &[u32],
-    d: &[u32],
-    res: &mut [u32],
-    pad: &mut [u32],
-)
+fn push(table: &[u32], n: u32, height: usize, res: &mut [u32], pad: &mut [u32])
     requires space { Space n height res.old pad.old }
-    requires x_len { (x : Letter) → length (lettered a.now b.now c.now d.now x) ≡ 2 ^ n }
-    ensures res_after { res.new ≡ lettered a.now b.now c.now d.now (letter_of name) }
+    requires table_len { length table.now ≡ 2 ^ n }
+    ensures res_after { res.new ≡ table.now }
     ensures saved { Saved (place_of n height) res.old pad.old pad.new }
 {
     save(place_of(n, height), res, pad);
-    match name {
-        Name::A => copy(a, res),
-        Name::B => copy(b, res),
-        Name::C => copy(c, res),
-        Name::D => copy(d, res),
-    }
+    copy(table, res);
 }
 
-// One instruction: 0, or the word of the call that refuses.
+// One instruction.
 fn step(
     code: Code,
     n: u32,
     modulus: Modulus,
     height: usize,
-    a: &[u32],
-    b: &[u32],
-    c: &[u32],
-    d: &[u32],
+    tables: Tables,
     res: &mut [u32],
     pad: &mut [u32],
-) -> u32
+) -> Result<(), Refusal>
     requires ready { Ready n modulus height res.old pad.old }
-    requires lettered { Lettered n modulus.value a.now b.now c.now d.now }
+    requires lettered { Lettered n modulus.value (lent tables) }
     requires can { Can (meant_by code) height }
-    ensures { (by : Choice n modulus.value) → Stepped n modulus.value by (lettered a.now b.now c.now d.now) (meant_by code) height res.old pad.old result res.new pad.new }
+    ensures { (by : Choice n modulus.value) → Stepped n modulus.value by (lent tables.entry) (meant_by code) height res.old pad.old (word_of result) res.new pad.new }
 {
     match code {
         Code::Push(name) => {
-            push(name, n, height, a, b, c, d, res, pad);
-            0
+            push(tables.named(name), n, height, res, pad);
+            Ok(())
         }
         Code::Combine(sign) => combine(sign, n, modulus, place_of(n, height - 1), res, pad),
         Code::Apply(function) => apply(function, n, modulus, res, pad),
@@ -138,34 +146,28 @@ fn give_back(n: u32, height: usize, pad: &[u32], res: &mut [u32])
     }
 }
 
-// The recipe of some code, worked out into the result: 0, or the word of the first call that refuses, with the result as it came.
+// The recipe of some code, worked out into the result; if a call refuses, the result as it came.
 pub fn work(
     n: u32,
     modulus: Modulus,
     codes: &[u8],
-    a: &[u32],
-    b: &[u32],
-    c: &[u32],
-    d: &[u32],
+    tables: Tables,
     res: &mut [u32],
     pad: &mut [u32],
-) -> u32
+) -> Result<(), Refusal>
     requires ready { Ready n modulus 0 res.old pad.old }
-    requires lettered { Lettered n modulus.value a.now b.now c.now d.now }
+    requires lettered { Lettered n modulus.value (lent tables) }
     requires fits { Fits codes.now 0 }
-    ensures { (by : Choice n modulus.value) (t : Tree sum) → codes.now ≡ postfix t → Worked (worth n modulus.value by (lettered a.now b.now c.now d.now) t) res.old result res.new }
+    ensures { (by : Choice n modulus.value) (t : Tree sum) → codes.now ≡ postfix t → Worked (worth n modulus.value by (lent tables.entry) t) res.old (word_of result) res.new }
 {
     let mut height = 0;
-    let mut i = 0;
-    while i < codes.len() {
-        let code = code_of(codes[i]);
-        let word = step(code, n, modulus, height, a, b, c, d, res, pad);
-        if word != 0 {
+    for byte in codes {
+        let code = code_of(*byte);
+        if let Err(refusal) = step(code, n, modulus, height, tables, res, pad) {
             give_back(n, height, pad, res);
-            return word;
+            return Err(refusal);
         }
         height = height_after(code, height);
-        i += 1;
     }
-    0
+    Ok(())
 }

@@ -4,6 +4,7 @@ use mathlib.Core.List.{List, ◌++◌}
 use Prim.Native.Nat.{ℕ, ◌<◌, ◌≤◌}
 use native.Mathlib.Nat.{mod-eq_of_lt}
 use native.Mathlib.Omega.{arith}
+use Rattle.std.specs.Prelude.{Result, Err}
 use lib.ListN.{length, take, drop}
 use lib.Pow.{pow_pos}
 use lib.Seq.{length-take-le}
@@ -11,6 +12,8 @@ use Rattle.definitions.specs.Limits.{pad_length}
 use Rattle.definitions.specs.Sums.{at}
 use Rattle.definitions.specs.Partitions.{exponential_table, IsLogarithm, IsInverse}
 use Rattle.definitions.specs.Refusals.{word_if, start_word, shared_start_word}
+use Rattle.refusals.specs.Words.{word, word_of}
+use Rattle.refusals.specs.declared.Refusal.{Refusal}
 use Rattle.definitions.specs.Recipes.{exponential, logarithm, inverse, Choice, call_gives, opening_call}
 use Rattle.theory.specs.Entries.{at_below}
 use Rattle.theory.specs.Logarithm.{logarithm_of, logarithm_is, logarithm_unique}
@@ -25,14 +28,14 @@ use Rattle.exponential.specs.Ready as exponentials
 use Rattle.recipe_theory.specs.Values.{exponential_gives, logarithm_gives, inverse_gives, logarithm_passes, inverse_passes}
 use Rattle.recipe_operations.specs.Operands.{Operand, Done}
 use Rattle.recipe_operations.specs.Places.{behind}
-use Rattle.recipe_operations.proofs.Signs.{is_done, is_refused}
+use Rattle.recipe_operations.proofs.Signs.{is_done, is_refused, is_refused_on}
 
 module _ {n : ℕ} {modulus : Modulus} {result pad : List ℕ} (h : Operand n modulus result pad) where
   abbrev m : ℕ
   m = modulus.value
 
   range : InRange n m
-  range = record { few = h.few; lowest = h.valid.lowest; largest = h.valid.largest }
+  range = record { few = h.few; lowest = modulus.valid.lowest; largest = modulus.valid.largest }
 
   pub has_first : 0 < length result
   has_first = omega (arith, h.table.size, pow_pos n)
@@ -95,13 +98,13 @@ module _ {n : ℕ} {modulus : Modulus} {result pad : List ℕ} (h : Operand n mo
   -- ---- what refuses
 
   module _ (by : Choice n m) where
-    pub exponential_refused : {w : ℕ} → w ≡ start_word 0 result → (w ≡ 0 → ⊥)
-        → Done n (opening_call n m by exponential result) (length pad) result pad w result pad
-    exponential_refused e stop = is_refused (exponential_table n m result) (start_word 0 result) (exponential_gives range by h.table) e stop
+    pub exponential_refused : {A : Type 0} {refusal : Refusal} {r : Result A Refusal} → word refusal ≡ start_word 0 result → r ≡ Err refusal
+        → Done n (opening_call n m by exponential result) (length pad) result pad (word_of r) result pad
+    exponential_refused e stop = is_refused_on (exponential_table n m result) (start_word 0 result) (exponential_gives range by h.table) e stop
 
-    pub logarithm_refused : {w : ℕ} → w ≡ start_word 1 result → (w ≡ 0 → ⊥)
-        → Done n (opening_call n m by logarithm result) (length pad) result pad w result pad
-    logarithm_refused e stop = is_refused (by.logarithm_of result) (start_word 1 result) (logarithm_gives range by h.table) e stop
+    pub logarithm_refused : {A : Type 0} {refusal : Refusal} {r : Result A Refusal} → word refusal ≡ start_word 1 result → r ≡ Err refusal
+        → Done n (opening_call n m by logarithm result) (length pad) result pad (word_of r) result pad
+    logarithm_refused e stop = is_refused_on (by.logarithm_of result) (start_word 1 result) (logarithm_gives range by h.table) e stop
 
     pub inverse_refused : {d : ℕ} → IsCommonDivisor m (at result 0) d
         → Done n (opening_call n m by inverse result) (length pad) result pad 6 result pad

@@ -1,20 +1,23 @@
 -- The call of a sign on the table at a place and on the result: what each core is lent, and what is left.
-use mathlib.Core.Path.{◌≡◌, refl, sym, ◌∙◌, ap, ap₂}
+use mathlib.Core.Path.{◌≡◌, refl, sym, ◌∙◌, ap}
 use mathlib.Core.Bool.{false}
 use mathlib.Core.List.{List}
 use Prim.Native.Nat.{ℕ, zero, suc, ◌+◌, ◌-◌, ◌*◌, ◌%◌, ◌^◌, ◌<◌, ◌≤◌}
 use native.Mathlib.Omega.{arith}
+use Rattle.std.specs.Prelude.{Result, Err}
 use lib.Dec.{eqb}
 use lib.ListN.{length, take, drop}
 use borrow.Author.Tests.{eqb-false}
 use borrow.Rule.Slice.PartMut.{put_mid}
 use Rattle.definitions.specs.Limits.{pad_length}
-use Rattle.definitions.specs.Sums.{at}
-use Rattle.definitions.specs.Products.{residues, sum_table, difference_table, subset_table, xor_table}
+use Rattle.definitions.specs.Sums.{tabulate, at}
+use Rattle.definitions.specs.Products.{residues, subset_table, xor_table}
 use Rattle.definitions.specs.Refusals.{halving_word}
 use Rattle.definitions.specs.Outcomes.{Outcome, accepted}
+use Rattle.refusals.specs.Words.{word, word_of}
+use Rattle.refusals.specs.declared.Refusal.{Refusal}
 use Rattle.definitions.specs.Recipes.{plus, minus, times, union, xor, call_gives, sign_call}
-use Rattle.theory.specs.Lists.{length-residues}
+use Rattle.theory.specs.Lists.{tabulate_of, length-residues}
 use Rattle.theory.specs.Parts.{at_part}
 use Rattle.residues.specs.declared.Modulus.{Modulus}
 use Rattle.checks.specs.Words.{no_word}
@@ -23,12 +26,12 @@ use Rattle.pointwise.specs.Pairs.{Inputs}
 use Rattle.pointwise.specs.Tables.{Ready}
 use Rattle.ranked_theory.specs.Layout.{rows_and_tables}
 use Rattle.ranked_within.specs.Within.{table_at, Standing, WithinReady, WithinMade}
-use Rattle.transform_passes.specs.Steps.{Transformed, products, Halves}
+use Rattle.transform_passes.specs.Steps.{zeta, moebius, walsh, Transformed, products, Halves}
 use Rattle.transform_passes.specs.Made.{union_made, xor_made}
-use Rattle.transform_passes.specs.declared.Transform.TheVariants.{Zeta, Moebius, Walsh}
 use Rattle.recipe_theory.specs.Values.{plus_gives, minus_gives, times_gives, union_gives, xor_gives}
-use Rattle.recipe_operations.specs.Operands.{Operands, PairReady, Saved, Done}
-use Rattle.recipe_operations.specs.Places.{part_size, table_by, same_table, saved}
+use Rattle.refusals.specs.Handed.{handed_word, never_accepts}
+use Rattle.recipe_operations.specs.Operands.{Operands, Saved, Done}
+use Rattle.recipe_operations.specs.Places.{part_size, table_by, saved}
 
 -- ---- a call that is done, and one that refuses
 
@@ -50,20 +53,10 @@ module _ {n : ℕ} {call : Outcome (List ℕ)} {place : ℕ} {result pad : List 
         rest = λ x a b. refl;
       }
 
--- ---- two tables side by side
-
-module _ {n : ℕ} {modulus : Modulus} {place : ℕ} {pad result : List ℕ} (h : PairReady n modulus place pad result) where
-  abbrev long : ℕ
-  long = length result
-
-  pub pair_inputs : Inputs modulus long (take ((place + long) - place) (drop place pad)) (take ((place + long + long) - (place + long)) (drop (place + long) pad))
-  pair_inputs = rw (h.long, part_size place (2 ^ n), part_size (place + 2 ^ n) (2 ^ n)) (record { valid = h.valid; first = h.left; second = h.right })
-
-  -- what is made of two parts is made of the two tables
-  pub pair_made : (rule : ℕ → List ℕ → List ℕ → List ℕ) {last : List ℕ}
-      → last ≡ rule long (take ((place + long) - place) (drop place pad)) (take ((place + long + long) - (place + long)) (drop (place + long) pad))
-      → last ≡ rule (2 ^ n) (table_at n place pad) (table_at n (place + 2 ^ n) pad)
-  pair_made rule e = rw (h.long, part_size place (2 ^ n), part_size (place + 2 ^ n) (2 ^ n)) at e
+  -- a `?` hands its refusal on
+  pub is_refused_on : {A : Type 0} {refusal : Refusal} {r : Result A Refusal} (made : List ℕ) (test : ℕ) → call ≡ call_gives test made → word refusal ≡ test
+      → r ≡ Err refusal → Done n call place result pad (word_of r) result pad
+  is_refused_on made test gives e h = is_refused made test gives (handed_word h ∙ e) (never_accepts h)
 
 -- ---- the operands
 
@@ -75,38 +68,36 @@ module _ {n : ℕ} {modulus : Modulus} {place : ℕ} {result pad : List ℕ} (h 
   left = table_at n place pad
 
   range : InRange n m
-  range = record { few = h.few; lowest = h.valid.lowest; largest = h.valid.largest }
+  range = record { few = h.few; lowest = modulus.valid.lowest; largest = modulus.valid.largest }
 
-  -- the right one put behind the left one
-  module _ {pad' : List ℕ} (kept : length pad' ≡ length pad) (s : Saved (place + length result) result pad pad') where
-    left_same : table_at n place pad' ≡ left
-    left_same =
-        same_table n place pad' (omega (arith, h.inside, kept)) pad (omega (arith, h.inside))
-        (λ x low high. s.before x (omega (arith, h.right.size)))
+  -- ---- the table at the place, as it is lent
 
-    right_same : table_at n (place + 2 ^ n) pad' ≡ result
-    right_same = rw h.right.size at s.there
+  abbrev part : List ℕ
+  part = take ((place + length result) - place) (drop place pad)
 
-    pub pair_ready : PairReady n modulus place pad' result
-    pair_ready =
-        record {
-          valid = h.valid;
-          left = rw left_same h.left;
-          right = rw right_same h.right;
-          long = h.right.size;
-          inside = omega (arith, h.inside, kept);
-        }
+  part_is : part ≡ left
+  part_is = ap (λ (k : ℕ). take k (drop place pad)) (part_size place (length result) ∙ h.right.size)
 
-    pair_rest : (x : ℕ) → pad_length n ≤ x → x < place → at pad' x ≡ at pad x
-    pair_rest x low high = s.before x (omega arith)
+  -- ---- entry by entry
 
-    pub added : {last : List ℕ} → last ≡ sum_table n m (table_at n place pad') (table_at n (place + 2 ^ n) pad')
-        → Done n (sign_call n m plus left result) place result pad 0 last pad'
-    added e = is_done (plus_gives range h.left h.right) (e ∙ ap₂ (sum_table n m) left_same right_same) pair_rest
+  pub pair_inputs : Inputs modulus (length result) part result
+  pair_inputs = rw (h.right.size, part_size place (2 ^ n)) (record { first = h.left; second = h.right })
 
-    pub subtracted : {last : List ℕ} → last ≡ difference_table n m (table_at n place pad') (table_at n (place + 2 ^ n) pad')
-        → Done n (sign_call n m minus left result) place result pad 0 last pad'
-    subtracted e = is_done (minus_gives range h.left h.right) (e ∙ ap₂ (difference_table n m) left_same right_same) pair_rest
+  module _ (rule : ℕ → ℕ → ℕ) {last : List ℕ} (long : length last ≡ length result)
+      (made : (i : ℕ) → i < length result → at last i ≡ rule (at part i) (at result i)) where
+    entries_made : last ≡ tabulate (2 ^ n) (λ S. rule (at left S) (at result S))
+    entries_made =
+        tabulate_of (2 ^ n) last _ (long ∙ h.right.size)
+        (λ i k. made i (omega (arith, h.right.size)) ∙ ap (λ (l : List ℕ). rule (at l i) (at result i)) part_is)
+
+  module _ {last : List ℕ} (long : length last ≡ length result) where
+    pub added : ((i : ℕ) → i < length result → at last i ≡ (at part i + at result i) % m) → Done n (sign_call n m plus left result) place result pad 0 last pad
+    unfolding residues
+    added made = is_done (plus_gives range h.left h.right) (entries_made (λ x y. (x + y) % m) long made) (λ x low high. refl)
+
+    pub subtracted : ((i : ℕ) → i < length result → at last i ≡ (at part i + (m - at result i)) % m) → Done n (sign_call n m minus left result) place result pad 0 last pad
+    unfolding residues
+    subtracted made = is_done (minus_gives range h.left h.right) (entries_made (λ x y. (x + (m - y)) % m) long made) (λ x low high. refl)
 
   -- ---- the product inside the pad
 
@@ -130,16 +121,10 @@ module _ {n : ℕ} {modulus : Modulus} {place : ℕ} {result pad : List ℕ} (h 
 
   -- ---- transforms at the place
 
-  abbrev part : List ℕ
-  part = take ((place + length result) - place) (drop place pad)
-
-  part_is : part ≡ left
-  part_is = ap (λ (k : ℕ). take k (drop place pad)) (part_size place (length result) ∙ h.right.size)
-
   pub both_ready : Ready n modulus part × Ready n modulus result
   both_ready = (
-    record { few = h.few; valid = h.valid; table = rw part_is h.left },
-    record { few = h.few; valid = h.valid; table = h.right },
+    record { few = h.few; table = rw part_is h.left },
+    record { few = h.few; table = h.right },
   )
 
   -- the place holds what was made there, and is put into the result
@@ -159,11 +144,11 @@ module _ {n : ℕ} {modulus : Modulus} {place : ℕ} {result pad : List ℕ} (h 
     rest : (x : ℕ) → pad_length n ≤ x → x < place → at pad_then x ≡ at pad x
     rest x low high = put.before x high
 
-    pub united : {long : ℕ} {last : List ℕ} → long ≡ length result → Transformed m Moebius n (products n m Zeta part result) new
+    pub united : {long : ℕ} {last : List ℕ} → long ≡ length result → Transformed m moebius n (products n m zeta part result) new
         → last ≡ take long (drop place pad_then) → Done n (sign_call n m union left result) place result pad 0 last pad_then
     united l t e = is_done (union_gives range h.left h.right) (restored l e ∙ union_made h.left h.right (rw part_is at t)) rest
 
-    pub xored : {long u : ℕ} {taken last : List ℕ} → halving_word m ≡ 0 → long ≡ length result → Transformed m Walsh n (products n m Walsh part result) new
+    pub xored : {long u : ℕ} {taken last : List ℕ} → halving_word m ≡ 0 → long ≡ length result → Transformed m walsh n (products n m walsh part result) new
         → taken ≡ take long (drop place pad_then) → Halves n m u → last ≡ residues n m (λ S. u * at taken S)
         → Done n (sign_call n m xor left result) place result pad 0 last pad_then
     xored z l t e half f =
@@ -171,12 +156,13 @@ module _ {n : ℕ} {modulus : Modulus} {place : ℕ} {result pad : List ℕ} (h 
         (xor_made h.left h.right (rw part_is at t) half (rw (restored l e) at f)) rest
 
     -- before it is scaled
-    pub scale_ready : {long : ℕ} {taken : List ℕ} → long ≡ length result → Transformed m Walsh n (products n m Walsh part result) new
+    pub scale_ready : {long : ℕ} {taken : List ℕ} → long ≡ length result → Transformed m walsh n (products n m walsh part result) new
         → taken ≡ take long (drop place pad_then) → Ready n modulus taken
-    scale_ready l t e = record { few = h.few; valid = h.valid; table = rw (restored l e) t.table }
+    scale_ready l t e = record { few = h.few; table = rw (restored l e) t.table }
 
-  pub xor_refused : {w : ℕ} → w ≡ halving_word m → (w ≡ 0 → ⊥) → Done n (sign_call n m xor left result) place result pad w result pad
-  xor_refused e stop = is_refused (xor_table n m left result) (halving_word m) (xor_gives range h.left h.right) e stop
+  pub xor_refused : {A : Type 0} {refusal : Refusal} {r : Result A Refusal} → word refusal ≡ halving_word m → r ≡ Err refusal
+      → Done n (sign_call n m xor left result) place result pad (word_of r) result pad
+  xor_refused e stop = is_refused_on (xor_table n m left result) (halving_word m) (xor_gives range h.left h.right) e stop
 
 pub odd : (m : ℕ) → halving_word m ≡ 0 → m % 2 ≡ 1
 odd m z =

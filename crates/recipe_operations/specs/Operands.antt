@@ -4,7 +4,6 @@ use Rattle.definitions.specs.Limits.{most_controls, pad_length}
 use Rattle.definitions.specs.Sums.{at}
 use Rattle.definitions.specs.Outcomes.{Outcome}
 use Rattle.definitions.specs.Recipes.{call_gives}
-use Rattle.residues.specs.Moduli.{Valid}
 use Rattle.residues.specs.declared.Modulus.{Modulus}
 use Rattle.checks.specs.Accepted.{IsTable}
 use Rattle.ranked_within.specs.Within.{table_at}
@@ -12,7 +11,6 @@ use Rattle.ranked_within.specs.Within.{table_at}
 -- the table at a place of the pad, behind the workspace and with room for one more behind it, and the result
 pub record Operands (n : ℕ) (modulus : Modulus) (place : ℕ) (result pad : List ℕ) : Type 0 where
   pub few : n ≤ most_controls
-  pub valid : Valid modulus
   pub left : IsTable n modulus.value (table_at n place pad)
   pub right : IsTable n modulus.value result
   pub behind : pad_length n ≤ place
@@ -21,17 +19,8 @@ pub record Operands (n : ℕ) (modulus : Modulus) (place : ℕ) (result pad : Li
 -- the result alone, and a pad with a workspace
 pub record Operand (n : ℕ) (modulus : Modulus) (result pad : List ℕ) : Type 0 where
   pub few : n ≤ most_controls
-  pub valid : Valid modulus
   pub table : IsTable n modulus.value result
   pub room : pad_length n ≤ length pad
-
--- two tables side by side, and a result as long
-pub record PairReady (n : ℕ) (modulus : Modulus) (place : ℕ) (pad result : List ℕ) : Type 0 where
-  pub valid : Valid modulus
-  pub left : IsTable n modulus.value (table_at n place pad)
-  pub right : IsTable n modulus.value (table_at n (place + 2 ^ n) pad)
-  pub long : length result ≡ 2 ^ n
-  pub inside : place + 2 * 2 ^ n ≤ length pad
 
 -- a list put into another at a place; what stands before it is as it was
 pub record Saved (place : ℕ) (t pad pad' : List ℕ) : Type 0 where

@@ -1,28 +1,30 @@
-// The calls of a recipe on tables in lent memory, by the cores that the public calls use: a sign on the table at a place of the pad and
-// on the result, a function on the result. Each leaves its table in the result. A part of a slice that is written cannot be lent beside
-// another, so a core that writes in the pad is given the result and one part of the pad. What must be tested is tested before anything
-// is written.
+// The calls of a recipe on tables in lent memory, by the cores that the public calls use (sum and difference need none): a sign on the
+// table at a place of the pad and on the result, a function on the result. Each leaves its table in the result. A part of a slice that
+// is written cannot be lent beside another, so a core that writes in the pad is given the result and one part of the pad. What must be
+// tested is tested before anything is written.
 #![tactic(auto)]
 
-ghost use Rattle.std.specs.Prelude.{◌≡◌, ◌+◌, ◌^◌, ◌≤◌, length, take, drop};
-ghost use Rattle.definitions.specs.Products.{sum_table, difference_table};
+ghost use Rattle.std.specs.Prelude.{◌≡◌, ℕ, ◌+◌, ◌<◌, ◌≤◌, length, take, drop};
+ghost use Rattle.definitions.specs.Sums.{at};
 ghost use Rattle.definitions.specs.Recipes.{plus, minus, times, union, xor, exponential, logarithm, inverse, Choice, sign_call, opening_call};
+ghost use Rattle.refusals.specs.Words.{word_of};
+ghost use Rattle.pointwise.specs.Pairs.{Inputs};
 ghost use Rattle.ranked_within.specs.Within.{table_at};
 ghost use Rattle.recipe_operations.specs.Codes.{sign_of, opening_of};
-ghost use Rattle.recipe_operations.specs.Operands.{Operands, Operand, Done, Saved, PairReady};
+ghost use Rattle.recipe_operations.specs.Operands.{Operands, Operand, Done, Saved};
 
 use composition::take_result;
-use entrywise::{add_entries, subtract_entries};
 use exponential::exponential_table;
 use pads::pad_length;
 use pointwise::{copy, scale};
 use ranked_within::multiply_within;
-use refusal_words::{halving_word, start_word};
-use residues::{Modulus, Reciprocal};
+use refusal_words::{test_halving, test_start};
+use refusals::Refusal;
+use residues::Modulus;
 use series_rows::{inverse_table, logarithm_table};
-use transform_passes::{Transform, convolve_in_place, halved};
+use transform_passes::{Moebius, Walsh, Zeta, convolve_in_place, halved};
 
-#[derive(Clone, Copy)]
+#[derive(Clone, Copy, Debug, PartialEq, Eq)]
 pub enum Sign {
     Plus,
     Minus,
@@ -31,7 +33,7 @@ pub enum Sign {
     Xor,
 }
 
-#[derive(Clone, Copy)]
+#[derive(Clone, Copy, Debug, PartialEq, Eq)]
 pub enum Function {
     Exponential,
     Logarithm,
@@ -56,42 +58,41 @@ pub fn restore(place: usize, pad: &[u32], res: &mut [u32])
     copy(&pad[place..end], res);
 }
 
-// The sum of the table at a place and of the one behind it.
-fn add_places(n: u32, modulus: Modulus, place: usize, pad: &[u32], res: &mut [u32])
-    requires { PairReady n modulus place pad.now res.old }
-    ensures { res.new ≡ sum_table n modulus.value (table_at n place pad.now) (table_at n (place + 2 ^ n) pad.now) }
+// Each entry of the result by one operation on that of a table and its own.
+fn entry_by_entry<F: Fn(u32, u32) -> u32>(
+    modulus: Modulus,
+    table: &[u32],
+    res: &mut [u32],
+    operation: F,
+)
+    requires inputs { Inputs modulus (length res.old) table.now res.old }
+    requires callable { (x y : ℕ) → x < modulus.value → y < modulus.value → F.pre operation x y }
+    ensures res_len { length res.new ≡ length res.old }
+    ensures entries { (i : ℕ) → i < length res.old → F.post operation (at table.now i) (at res.old i) (at res.new i) }
 {
-    let behind = place + res.len();
-    let end = behind + res.len();
-    add_entries(modulus, &pad[place..behind], &pad[behind..end], res);
+    for (i, entry) in res.iter_mut().enumerate() {
+        *entry = operation(table[i], *entry);
+    }
 }
 
-// The difference of the table at a place and of the one behind it.
-fn subtract_places(n: u32, modulus: Modulus, place: usize, pad: &[u32], res: &mut [u32])
-    requires { PairReady n modulus place pad.now res.old }
-    ensures { res.new ≡ difference_table n modulus.value (table_at n place pad.now) (table_at n (place + 2 ^ n) pad.now) }
+// The sum, entry by entry.
+fn add_at(n: u32, modulus: Modulus, place: usize, res: &mut [u32], pad: &[u32])
+    requires { Operands n modulus place res.old pad.now }
+    ensures { Done n (sign_call n modulus.value plus (table_at n place pad.now) res.old) place res.old pad.now 0 res.new pad.now }
 {
-    let behind = place + res.len();
-    let end = behind + res.len();
-    subtract_entries(modulus, &pad[place..behind], &pad[behind..end], res);
+    let end = place + res.len();
+    entry_by_entry(modulus, &pad[place..end], res, |x, y| modulus.add(x, y));
 }
 
-// The right operand is put behind the left one, so that the result is free for their sum.
-fn add_at(n: u32, modulus: Modulus, place: usize, res: &mut [u32], pad: &mut [u32])
-    requires { Operands n modulus place res.old pad.old }
-    ensures { Done n (sign_call n modulus.value plus (table_at n place pad.old) res.old) place res.old pad.old 0 res.new pad.new }
+// The difference, entry by entry.
+fn subtract_at(n: u32, modulus: Modulus, place: usize, res: &mut [u32], pad: &[u32])
+    requires { Operands n modulus place res.old pad.now }
+    ensures { Done n (sign_call n modulus.value minus (table_at n place pad.now) res.old) place res.old pad.now 0 res.new pad.now }
 {
-    save(place + res.len(), res, pad);
-    add_places(n, modulus, place, pad, res);
-}
-
-// The same with their difference.
-fn subtract_at(n: u32, modulus: Modulus, place: usize, res: &mut [u32], pad: &mut [u32])
-    requires { Operands n modulus place res.old pad.old }
-    ensures { Done n (sign_call n modulus.value minus (table_at n place pad.old) res.old) place res.old pad.old 0 res.new pad.new }
-{
-    save(place + res.len(), res, pad);
-    subtract_places(n, modulus, place, pad, res);
+    let end = place + res.len();
+    entry_by_entry(modulus, &pad[place..end], res, |x, y| {
+        modulus.subtract(x, y)
+    });
 }
 
 // The subset product, worked at the place.
@@ -109,86 +110,67 @@ fn union_at(n: u32, modulus: Modulus, place: usize, res: &mut [u32], pad: &mut [
     ensures { Done n (sign_call n modulus.value union (table_at n place pad.old) res.old) place res.old pad.old 0 res.new pad.new }
 {
     let end = place + res.len();
-    convolve_in_place(
-        Transform::Zeta,
-        Transform::Moebius,
-        n,
-        modulus,
-        &mut pad[place..end],
-        res,
-    );
+    convolve_in_place::<Zeta, Moebius>(n, modulus, &mut pad[place..end], res);
     restore(place, pad, res);
 }
 
 // The xor product, worked at the place; refused under an even modulus. What the transform made twice multiplied by is taken out again.
-fn xor_at(n: u32, modulus: Modulus, place: usize, res: &mut [u32], pad: &mut [u32]) -> u32
+fn xor_at(
+    n: u32,
+    modulus: Modulus,
+    place: usize,
+    res: &mut [u32],
+    pad: &mut [u32],
+) -> Result<(), Refusal>
     requires { Operands n modulus place res.old pad.old }
-    ensures { Done n (sign_call n modulus.value xor (table_at n place pad.old) res.old) place res.old pad.old result res.new pad.new }
+    ensures { Done n (sign_call n modulus.value xor (table_at n place pad.old) res.old) place res.old pad.old (word_of result) res.new pad.new }
 {
-    let word = halving_word(modulus.value());
-    if word != 0 {
-        return word;
-    }
+    test_halving(modulus.value())?;
     let end = place + res.len();
-    convolve_in_place(
-        Transform::Walsh,
-        Transform::Walsh,
-        n,
-        modulus,
-        &mut pad[place..end],
-        res,
-    );
+    convolve_in_place::<Walsh, Walsh>(n, modulus, &mut pad[place..end], res);
     restore(place, pad, res);
     scale(n, modulus, halved(n, modulus), res);
-    0
+    Ok(())
 }
 
-// The exponential of the result, worked where it stands: 0, or 6.
-fn exponential_of(n: u32, modulus: Modulus, res: &mut [u32], pad: &mut [u32]) -> u32
+// The exponential of the result, worked where it stands; refused by its start.
+fn exponential_of(n: u32, modulus: Modulus, res: &mut [u32], pad: &mut [u32]) -> Result<(), Refusal>
     requires { Operand n modulus res.old pad.old }
-    ensures { (by : Choice n modulus.value) → Done n (opening_call n modulus.value by exponential res.old) (length pad.old) res.old pad.old result res.new pad.new }
+    ensures { (by : Choice n modulus.value) → Done n (opening_call n modulus.value by exponential res.old) (length pad.old) res.old pad.old (word_of result) res.new pad.new }
 {
-    let word = start_word(0, res);
-    if word != 0 {
-        return word;
-    }
+    test_start(0, res)?;
     let used = pad_length(n);
     exponential_table(n as usize, modulus, res, &mut pad[..used]);
-    0
+    Ok(())
 }
 
-// The logarithm of the result, worked in the workspace: 0, or 6.
-fn logarithm_of(n: u32, modulus: Modulus, res: &mut [u32], pad: &mut [u32]) -> u32
+// The logarithm of the result, worked in the workspace; refused by its start.
+fn logarithm_of(n: u32, modulus: Modulus, res: &mut [u32], pad: &mut [u32]) -> Result<(), Refusal>
     requires { Operand n modulus res.old pad.old }
-    ensures { (by : Choice n modulus.value) → Done n (opening_call n modulus.value by logarithm res.old) (length pad.old) res.old pad.old result res.new pad.new }
+    ensures { (by : Choice n modulus.value) → Done n (opening_call n modulus.value by logarithm res.old) (length pad.old) res.old pad.old (word_of result) res.new pad.new }
 {
-    let word = start_word(1, res);
-    if word != 0 {
-        return word;
-    }
+    test_start(1, res)?;
     let used = pad_length(n);
     logarithm_table(n as usize, modulus, res, &mut pad[..used]);
     take_result(n as usize, pad, res);
-    0
+    Ok(())
 }
 
-// The inverse of the result, worked in the workspace: 0, or 6.
-fn inverse_of(n: u32, modulus: Modulus, res: &mut [u32], pad: &mut [u32]) -> u32
+// The inverse of the result, worked in the workspace; refused by its start.
+fn inverse_of(n: u32, modulus: Modulus, res: &mut [u32], pad: &mut [u32]) -> Result<(), Refusal>
     requires { Operand n modulus res.old pad.old }
-    ensures { (by : Choice n modulus.value) → Done n (opening_call n modulus.value by inverse res.old) (length pad.old) res.old pad.old result res.new pad.new }
+    ensures { (by : Choice n modulus.value) → Done n (opening_call n modulus.value by inverse res.old) (length pad.old) res.old pad.old (word_of result) res.new pad.new }
 {
-    match modulus.reciprocal(res[0]) {
-        Reciprocal::Of(u) => {
-            let used = pad_length(n);
-            inverse_table(n as usize, modulus, u, res, &mut pad[..used]);
-            take_result(n as usize, pad, res);
-            0
-        }
-        Reciprocal::CommonDivisor(_) => 6,
-    }
+    let Ok(u) = modulus.reciprocal(res[0]) else {
+        return Err(Refusal::Start);
+    };
+    let used = pad_length(n);
+    inverse_table(n as usize, modulus, u, res, &mut pad[..used]);
+    take_result(n as usize, pad, res);
+    Ok(())
 }
 
-// The call of a sign on the table at a place and on the result: 0, or the word of its refusal.
+// The call of a sign on the table at a place and on the result.
 pub fn combine(
     sign: Sign,
     n: u32,
@@ -196,9 +178,9 @@ pub fn combine(
     place: usize,
     res: &mut [u32],
     pad: &mut [u32],
-) -> u32
+) -> Result<(), Refusal>
     requires { Operands n modulus place res.old pad.old }
-    ensures { Done n (sign_call n modulus.value (sign_of sign) (table_at n place pad.old) res.old) place res.old pad.old result res.new pad.new }
+    ensures { Done n (sign_call n modulus.value (sign_of sign) (table_at n place pad.old) res.old) place res.old pad.old (word_of result) res.new pad.new }
 {
     match sign {
         Sign::Plus => add_at(n, modulus, place, res, pad),
@@ -207,13 +189,19 @@ pub fn combine(
         Sign::Union => union_at(n, modulus, place, res, pad),
         Sign::Xor => return xor_at(n, modulus, place, res, pad),
     }
-    0
+    Ok(())
 }
 
-// The call of a function on the result: 0, or the word of its refusal.
-pub fn apply(function: Function, n: u32, modulus: Modulus, res: &mut [u32], pad: &mut [u32]) -> u32
+// The call of a function on the result.
+pub fn apply(
+    function: Function,
+    n: u32,
+    modulus: Modulus,
+    res: &mut [u32],
+    pad: &mut [u32],
+) -> Result<(), Refusal>
     requires { Operand n modulus res.old pad.old }
-    ensures { (by : Choice n modulus.value) → Done n (opening_call n modulus.value by (opening_of function) res.old) (length pad.old) res.old pad.old result res.new pad.new }
+    ensures { (by : Choice n modulus.value) → Done n (opening_call n modulus.value by (opening_of function) res.old) (length pad.old) res.old pad.old (word_of result) res.new pad.new }
 {
     match function {
         Function::Exponential => exponential_of(n, modulus, res, pad),

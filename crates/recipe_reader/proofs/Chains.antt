@@ -2,6 +2,8 @@
 use mathlib.Core.Path.{◌≡◌, refl, sym, ◌∙◌, ap, ap₂}
 use mathlib.Core.List.{List, [], ◌∷◌, ◌++◌, append_assoc}
 use mathlib.Core.Option.{Option, some, none}
+use Rattle.std.specs.Prelude as std
+use Rattle.std.specs.Prelude.{Some, None}
 use Prim.Native.Nat.{ℕ, zero, suc, ◌+◌, ◌-◌, ◌<◌, ◌≤◌, max}
 use native.Mathlib.Nat.{le_refl}
 use native.Mathlib.Omega.{arith}
@@ -14,8 +16,6 @@ use Rattle.recipe_theory.specs.Postfix.{postfix}
 use Rattle.recipe_words.specs.Answers.{sign_answer, Gives, Added, Room, Stands, Taken}
 use Rattle.recipe_words.specs.AnswerLaws.{added_byte}
 use Rattle.recipe_words.specs.declared.Place.{Place}
-use Rattle.recipe_words.specs.declared.SignAnswer.{SignAnswer}
-use Rattle.recipe_words.specs.declared.SignAnswer.TheVariants as sign
 
 -- ---- the outcome of a chain
 
@@ -164,17 +164,17 @@ pub record Found (l : Level) (bytes : List ℕ) (b : ℕ) : Type 0 where
   pub byte : sign_byte sign ≡ b
 
 module _ {l : Level} (bytes : List ℕ) where
-  pub found : {r : SignAnswer} {b : ℕ} → r ≡ sign_answer (next_sign l bytes) → r ≡ sign.Sign b → Found l bytes b
+  pub found : {r : std.Option ℕ} {b : ℕ} → r ≡ sign_answer (next_sign l bytes) → r ≡ Some b → Found l bytes b
   found {r} {b} e f = by (next_sign l bytes) refl (sym e ∙ f)
     where
-      by : (o : Option (Sign l)) → next_sign l bytes ≡ o → sign_answer o ≡ sign.Sign b → Found l bytes b
+      by : (o : Option (Sign l)) → next_sign l bytes ≡ o → sign_answer o ≡ Some b → Found l bytes b
       by none p q = absurd (let w : ◌≡◌ {A = ℕ} 0 1 = cc in omega arith)
       by (some s) p q = record { sign = s; stands = p; byte = cc }
 
-  pub not_found : {r : SignAnswer} → r ≡ sign_answer (next_sign l bytes) → r ≡ sign.Nothing → next_sign l bytes ≡ none
+  pub not_found : {r : std.Option ℕ} → r ≡ sign_answer (next_sign l bytes) → r ≡ None → next_sign l bytes ≡ none
   not_found {r} e f = by (next_sign l bytes) refl (sym e ∙ f)
     where
-      by : (o : Option (Sign l)) → next_sign l bytes ≡ o → sign_answer o ≡ sign.Nothing → next_sign l bytes ≡ none
+      by : (o : Option (Sign l)) → next_sign l bytes ≡ o → sign_answer o ≡ None → next_sign l bytes ≡ none
       by none p q = p
       by (some s) p q = absurd (let w : ◌≡◌ {A = ℕ} 0 1 = cc in omega arith)
 
@@ -214,3 +214,39 @@ module _ {l : Level} {line : List ℕ} {at : ℕ} {code : List ℕ} {used : ℕ}
 
       pub nearer : length line - y.next < length line - x.next
       nearer = omega (arith, second.taken.stands)
+
+-- ---- a turn of a reader's loop: a sign that was answered, and the operand behind it
+
+module _ {l : Level} {line : List ℕ} {at : ℕ} {code : List ℕ} {used : ℕ} {code' : List ℕ} {x : Place} (head : Head l line at code used code' x)
+    {r : std.Option ℕ} {b : ℕ} (e : r ≡ sign_answer (next_sign (above l) (drop x.next line))) (f : r ≡ Some b) where
+  sign_here : Found (above l) (drop x.next line) b
+  sign_here = found (drop x.next line) e f
+
+  pub sign_within : x.next < length line
+  sign_within = sign_inside line x.next sign_here
+
+  pub operand_room : Room line (x.next + 1) code' x.used
+  operand_room = room_behind head sign_within
+
+  pub operand_refused : Gives l (drop (x.next + 1) line) (refused 13) → Gives (above l) (drop at line) (refused 13)
+  operand_refused g = chain_refused head.chained sign_here.sign sign_here.stands g
+
+  module _ {y : Place} {code'' : List ℕ} (taken : Taken l line (x.next + 1) code' x.used y code'') (long : length code'' ≡ length code') where
+    second : Second l line code' x code'' y
+    second = record { taken = taken; long = long }
+
+    pub sign_room : y.used < length code''
+    sign_room = room_sign head sign_within second
+
+    pub operand_nearer : length line - y.next < length line - x.next
+    operand_nearer = nearer head sign_within second
+
+    pub head_joined : {z : Place} {new : List ℕ} → (z.next ≡ y.next) × (z.used ≡ y.used + 1) × (z.depth ≡ max x.depth y.depth) → new ≡ set code'' y.used b
+        → length new ≡ length code'' → Head l line at code used new z
+    head_joined place is kept = record {
+      chained =
+          rw (is, ← sign_here.byte)
+          (chain_goes_on head.chained sign_here.sign sign_here.stands taken sign_room place.0 place.1 place.2);
+      room = head.room;
+      long = kept ∙ long ∙ head.long;
+    }

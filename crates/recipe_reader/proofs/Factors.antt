@@ -3,6 +3,9 @@ use mathlib.Core.Path.{◌≡◌, refl, sym, ◌∙◌, ap, subst}
 use mathlib.Core.Bool.{true, false}
 use mathlib.Core.List.{List, [], ◌∷◌}
 use mathlib.Core.Option.{Option, some, none}
+use Rattle.std.specs.Prelude as std
+use Rattle.std.specs.Prelude.{Some, None}
+use Rattle.std.proofs.lemmas.Option.{same_Some}
 use Prim.Native.Nat.{ℕ, zero, suc, ◌+◌, ◌<◌, ◌≤◌}
 use native.Mathlib.Omega.{arith}
 use lib.ListN.{length, drop, get_or, length-drop, length-append}
@@ -16,10 +19,7 @@ use Rattle.recipe_theory.specs.Postfix.{postfix, opening_code}
 use Rattle.recipe_words.specs.Answers.{opening_answer, call_byte, call_code, Gives, Added, Room, Stands, Taken, Reads, Closed, Closes}
 use Rattle.recipe_words.specs.AnswerLaws.{is_read, is_refused}
 use Rattle.recipe_words.specs.declared.Place.{Place}
-use Rattle.recipe_words.specs.declared.ReadAnswer.{ReadAnswer}
-use Rattle.recipe_words.specs.declared.ReadAnswer.TheVariants.{Read, Refused}
-use Rattle.recipe_words.specs.declared.OpeningAnswer.{OpeningAnswer}
-use Rattle.recipe_words.specs.declared.OpeningAnswer.TheVariants as opening
+use Rattle.recipe_words.specs.declared.Opening as struct
 use Rattle.recipe_reader.proofs.Chains.{added_twice}
 
 -- ---- what opens
@@ -30,33 +30,35 @@ open_length exponential = omega arith
 open_length logarithm = omega arith
 open_length inverse = omega arith
 
-pub record OpensAt (bytes : List ℕ) (long call : ℕ) : Type 0 where
+pub record OpensAt (bytes : List ℕ) (long : ℕ) (call : std.Option ℕ) : Type 0 where
   pub opens : Opening
   pub stands : opening_of bytes ≡ some opens
   pub is_long : length (opening_text opens) ≡ long
   pub is_call : call_byte opens ≡ call
 
 module _ (bytes : List ℕ) where
-  pub opens_at : {r : OpeningAnswer} {long call : ℕ} → r ≡ opening_answer (opening_of bytes) → r ≡ opening.Opened long call → OpensAt bytes long call
-  opens_at {r} {long} {call} e f = by (opening_of bytes) refl (sym e ∙ f)
+  pub opens_at : {r : std.Option struct.Opening} {o : struct.Opening} → r ≡ opening_answer (opening_of bytes) → r ≡ Some o → OpensAt bytes o.length o.call
+  opens_at {r} {o} e f = by (opening_of bytes) refl (sym e ∙ f)
     where
-      by : (o : Option Opening) → opening_of bytes ≡ o → opening_answer o ≡ opening.Opened long call → OpensAt bytes long call
+      by : (p : Option Opening) → opening_of bytes ≡ p → opening_answer p ≡ Some o → OpensAt bytes o.length o.call
       by none p q = absurd (let w : ◌≡◌ {A = ℕ} 0 1 = cc in omega arith)
-      by (some o) p q = record { opens = o; stands = p; is_long = cc; is_call = cc }
+      by (some a) p q =
+          let same : ◌≡◌ {A = struct.Opening} (record { length = length (opening_text a); call = call_byte a }) o = same_Some _ _ q in
+          record { opens = a; stands = p; is_long = ap (λ (x : struct.Opening). x.length) same; is_call = ap (λ (x : struct.Opening). x.call) same }
 
-  pub nothing_opens : {r : OpeningAnswer} → r ≡ opening_answer (opening_of bytes) → r ≡ opening.Nothing → opening_of bytes ≡ none
+  pub nothing_opens : {r : std.Option struct.Opening} → r ≡ opening_answer (opening_of bytes) → r ≡ None → opening_of bytes ≡ none
   nothing_opens {r} e f = by (opening_of bytes) refl (sym e ∙ f)
     where
-      by : (o : Option Opening) → opening_of bytes ≡ o → opening_answer o ≡ opening.Nothing → opening_of bytes ≡ none
+      by : (o : Option Opening) → opening_of bytes ≡ o → opening_answer o ≡ None → opening_of bytes ≡ none
       by none p q = p
       by (some o) p q = absurd (let w : ◌≡◌ {A = ℕ} 0 1 = cc in omega arith)
 
-  opening_inside : {long call : ℕ} → OpensAt bytes long call → long ≤ length bytes
-  opening_inside {long} {call} o =
+  opening_inside : {long : ℕ} {call : std.Option ℕ} → OpensAt bytes long call → long ≤ length bytes
+  opening_inside {long} o =
       let e = simp length-append at (ap length (begins_splits (opening_text o.opens) bytes (opening_begins bytes o.opens o.stands))) in
       omega (arith, o.is_long)
 
-  pub opening_some : {long call : ℕ} → OpensAt bytes long call → 0 < long
+  pub opening_some : {long : ℕ} {call : std.Option ℕ} → OpensAt bytes long call → 0 < long
   opening_some o = omega (arith, open_length o.opens, o.is_long)
 
 -- ---- a recipe in parentheses
@@ -98,7 +100,7 @@ closing_here : (line : List ℕ) (at : ℕ) → at < length line → get_or line
 unfolding begins
 closing_here line at h e = rw (drop-cons line at 0, eq-eqb (get_or line at 0) closing_byte e)
 
-module _ (line : List ℕ) (at : ℕ) {long call : ℕ} (o : OpensAt (drop at line) long call) where
+module _ (line : List ℕ) (at : ℕ) {long : ℕ} {call : std.Option ℕ} (o : OpensAt (drop at line) long call) where
   behind : (p : Outcome (Parsed sum)) → Gives sum (drop (at + long) line) p → Gives factor (drop at line) (and_then p (close o.opens))
   behind p g = gives_inside o.opens (drop at line) p o.stands (rw (o.is_long, drop-drop) g)
 
@@ -137,10 +139,10 @@ module _ (line : List ℕ) (at : ℕ) {long call : ℕ} (o : OpensAt (drop at li
     pub room_call : Room line at code used → length code' ≡ length code → x.next < length line → x.used < length code'
     room_call room long h = omega (arith, inner.stands, inner.added, opening_some (drop at line) o)
 
-    pub closes : (r : ReadAnswer) (code'' : List ℕ) → Closes line x call code' r code'' → Reads factor line at code used r code''
-    closes Refused code'' e =
+    pub closes : (r : std.Option Place) (code'' : List ℕ) → Closes line x call code' r code'' → Reads factor line at code used r code''
+    closes None code'' e =
         is_refused (subst (Gives factor (drop at line)) (close_refused o.opens _ e) (behind _ inner.outcome))
-    closes (Read y) code'' e =
+    closes (Some y) code'' e =
         is_read
         (record {
           tree = inside o.opens inner.tree;

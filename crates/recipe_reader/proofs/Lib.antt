@@ -1,3 +1,4 @@
 mod Chains
 mod Factors
 mod Recipes
+mod Ranks

@@ -1,124 +1,68 @@
-// Recipes, read from a line: the readers of sum, alternative, product and factor call each other. What is read is written in
+// Recipes, read from a line: the readers of a level, of its operands and of a factor call each other. What is read is written in
 // postfix order, a byte for each table or call, into lent bytes.
 #![tactic(auto)]
 
 ghost use Rattle.std.specs.Prelude.{◌≤◌, length};
 ghost use Rattle.definitions.specs.Limits.{longest_recipe};
-ghost use Rattle.definitions.specs.Recipes.{factor, product, alternative, sum};
-ghost use Rattle.recipe_words.specs.Answers.{Room, Reads};
+ghost use Rattle.definitions.specs.Recipes.{factor};
+ghost use Rattle.recipe_words.specs.Answers.{operand, level_of, Room, Reads};
 ghost use Rattle.recipe_reader.specs.Answers.{RecipeReads};
 
 use recipe_words::{
-    OpeningAnswer, ReadAnswer, SignAnswer, alternative_sign, closed, end_word, joined, opening_at,
-    product_sign, read_letter, sum_sign, too_long,
+    Level, Place, check_end, closed, joined, opening_at, read_letter, sign_at, too_long,
 };
+use refusals::Refusal;
 
-#[derive(Clone, Copy)]
-pub enum RecipeAnswer {
-    // how many bytes of code there are
-    Code(usize),
-    // 02's number of the refusal
-    Refused(u32),
-}
-
-// A sum at a place: alternatives, and the signs between them. Its code goes behind what is used of the lent bytes.
+// A level at a place: operands, and the signs between them. Its code goes behind what is used of the lent bytes.
 #[cycle(reading)]
-fn read_sum(line: &[u8], at: usize, code: &mut [u8], used: usize) -> ReadAnswer
+fn read_level(level: Level, line: &[u8], at: usize, code: &mut [u8], used: usize) -> Option<Place>
     requires { Room line.now at code.old used }
-    ensures { Reads sum line.now at code.old used result code.new }
+    ensures { Reads (level_of level) line.now at code.old used result code.new }
 {
-    let ReadAnswer::Read(first) = read_alternative(line, at, code, used) else {
-        return ReadAnswer::Refused;
-    };
-    let mut place = first;
-    loop {
-        let next = place.next;
-        let SignAnswer::Sign(sign) = sum_sign(line, next) else {
-            return ReadAnswer::Read(place);
-        };
-        let behind = place.used;
-        let ReadAnswer::Read(second) = read_alternative(line, next + 1, code, behind) else {
-            return ReadAnswer::Refused;
-        };
+    let mut place = read_operand(level, line, at, code, used)?;
+    while let Some(sign) = sign_at(level, line, place.next) {
+        let second = read_operand(level, line, place.next + 1, code, place.used)?;
         place = joined(place, sign, second, code);
     }
+    Some(place)
 }
 
-// An alternative: products, and the signs between them.
+// An operand of a level: the operands of a sum are alternatives, theirs products, and theirs factors.
 #[cycle(reading)]
-fn read_alternative(line: &[u8], at: usize, code: &mut [u8], used: usize) -> ReadAnswer
+fn read_operand(level: Level, line: &[u8], at: usize, code: &mut [u8], used: usize) -> Option<Place>
     requires { Room line.now at code.old used }
-    ensures { Reads alternative line.now at code.old used result code.new }
+    ensures { Reads (operand level) line.now at code.old used result code.new }
 {
-    let ReadAnswer::Read(first) = read_product(line, at, code, used) else {
-        return ReadAnswer::Refused;
-    };
-    let mut place = first;
-    loop {
-        let next = place.next;
-        let SignAnswer::Sign(sign) = alternative_sign(line, next) else {
-            return ReadAnswer::Read(place);
-        };
-        let behind = place.used;
-        let ReadAnswer::Read(second) = read_product(line, next + 1, code, behind) else {
-            return ReadAnswer::Refused;
-        };
-        place = joined(place, sign, second, code);
-    }
-}
-
-// A product: factors, and the signs between them.
-#[cycle(reading)]
-fn read_product(line: &[u8], at: usize, code: &mut [u8], used: usize) -> ReadAnswer
-    requires { Room line.now at code.old used }
-    ensures { Reads product line.now at code.old used result code.new }
-{
-    let ReadAnswer::Read(first) = read_factor(line, at, code, used) else {
-        return ReadAnswer::Refused;
-    };
-    let mut place = first;
-    loop {
-        let next = place.next;
-        let SignAnswer::Sign(sign) = product_sign(line, next) else {
-            return ReadAnswer::Read(place);
-        };
-        let behind = place.used;
-        let ReadAnswer::Read(second) = read_factor(line, next + 1, code, behind) else {
-            return ReadAnswer::Refused;
-        };
-        place = joined(place, sign, second, code);
+    match level {
+        Level::Sum => read_level(Level::Alternative, line, at, code, used),
+        Level::Alternative => read_level(Level::Product, line, at, code, used),
+        Level::Product => read_factor(line, at, code, used),
     }
 }
 
 // A factor: a letter, or a sum in parentheses, with or without a function.
 #[cycle(reading)]
-fn read_factor(line: &[u8], at: usize, code: &mut [u8], used: usize) -> ReadAnswer
+fn read_factor(line: &[u8], at: usize, code: &mut [u8], used: usize) -> Option<Place>
     requires { Room line.now at code.old used }
     ensures { Reads factor line.now at code.old used result code.new }
 {
-    let OpeningAnswer::Opened(long, call) = opening_at(line, at) else {
+    let Some(opening) = opening_at(line, at) else {
         return read_letter(line, at, code, used);
     };
-    let ReadAnswer::Read(inner) = read_sum(line, at + long, code, used) else {
-        return ReadAnswer::Refused;
-    };
-    closed(line, inner, call, code)
+    let inner = read_level(Level::Sum, line, at + opening.length, code, used)?;
+    closed(line, inner, opening.call, code)
 }
 
-// The recipe of a line as code: 13 if the line is too long or outside the grammar, 14 if it nests too deep.
-pub fn read_recipe(line: &[u8], code: &mut [u8]) -> RecipeAnswer
+// The recipe of a line as code, how many bytes it has; or the refusal: of a line that is too long or outside the grammar, then of one
+// that nests too deep.
+pub fn read_recipe(line: &[u8], code: &mut [u8]) -> Result<usize, Refusal>
     requires { longest_recipe ≤ length code.old }
     ensures { RecipeReads line.now result code.new }
 {
     if too_long(line.len()) {
-        return RecipeAnswer::Refused(13);
+        return Err(Refusal::Recipe);
     }
-    let ReadAnswer::Read(place) = read_sum(line, 0, code, 0) else {
-        return RecipeAnswer::Refused(13);
-    };
-    let word = end_word(line.len() - place.next, place.depth);
-    if word != 0 {
-        return RecipeAnswer::Refused(word);
-    }
-    RecipeAnswer::Code(place.used)
+    let place = read_level(Level::Sum, line, 0, code, 0).ok_or(Refusal::Recipe)?;
+    check_end(line.len() - place.next, place.depth)?;
+    Ok(place.used)
 }

@@ -3,6 +3,7 @@ use mathlib.Core.Path.{◌≡◌, refl, sym, ◌∙◌, ap, subst}
 use mathlib.Core.Bool.{Bool, true, false}
 use mathlib.Core.List.{List, [], ◌∷◌, append-nil}
 use mathlib.Core.Option.{Option, some, none}
+use Rattle.std.specs.Prelude.{Some, None}
 use Prim.Native.Nat.{ℕ, zero, suc, ◌+◌, ◌<◌, ◌≤◌}
 use native.Mathlib.Numerals.{add-one}
 use native.Mathlib.Omega.{arith}
@@ -14,7 +15,7 @@ use Rattle.definitions.specs.Outcomes.{refused}
 use Rattle.definitions.specs.Recipes.{factor, sum, Letter, tableA, tableB, tableC, tableD, letter_byte, table, closing_byte, nesting}
 use Rattle.recipe_theory.specs.Reading.{read_level, read_factor, factor_by, read_letter, letter_by, letter_of, opening_of, begins}
 use Rattle.recipe_theory.specs.Postfix.{postfix}
-use Rattle.recipe_words.specs.Answers.{call_code, Gives, Added, Room, Taken, Closed}
+use Rattle.recipe_words.specs.Answers.{Gives, Added, Room, Taken, Closed}
 use Rattle.recipe_words.specs.AnswerLaws.{added_byte}
 use Rattle.recipe_words.specs.declared.Place.{Place}
 
@@ -64,22 +65,21 @@ module _ (line : List ℕ) (at : ℕ) (nothing : opening_of (drop at line) ≡ n
   unfolding read_letter
   letter_ends h = subst (Gives factor (drop at line)) (ap read_letter (drop_of_length-le line h)) (gives_letter (drop at line) nothing)
 
-  pub letter_low : at < length line → get_or line at 0 < 65 → Gives factor (drop at line) (refused 13)
-  letter_low h l = letter_by_lem h none (no_letter (get_or line at 0) (omega arith) (omega arith) (omega arith) (omega arith))
+  pub letter_else : at < length line → (65 ≤ get_or line at 0 → get_or line at 0 ≤ 68 → ⊥) → Gives factor (drop at line) (refused 13)
+  letter_else h l =
+      letter_by_lem h none (no_letter (get_or line at 0) (λ e. l (omega arith) (omega arith)) (λ e. l (omega arith) (omega arith))
+      (λ e. l (omega arith) (omega arith)) (λ e. l (omega arith) (omega arith)))
 
-  pub letter_high : at < length line → 68 < get_or line at 0 → Gives factor (drop at line) (refused 13)
-  letter_high h l = letter_by_lem h none (no_letter (get_or line at 0) (omega arith) (omega arith) (omega arith) (omega arith))
-
-  pub letter_taken : {code : List ℕ} {used : ℕ} → at < length line → 65 ≤ get_or line at 0 → get_or line at 0 ≤ 68 → Room line at code used →
-      Taken factor line at code used (record { next = at + 1; used = used + 1; depth = 0 }) (set code used (get_or line at 0))
+  pub letter_taken : {code : List ℕ} {used letter : ℕ} → at < length line → letter ≡ get_or line at 0 → 65 ≤ letter → letter ≤ 68 → Room line at code used
+      → Taken factor line at code used (record { next = at + 1; used = used + 1; depth = 0 }) (set code used letter)
   unfolding postfix nesting
-  letter_taken {code} {used} h low high room =
-      let b = letter_of_lem (get_or line at 0) low high in
+  letter_taken {code} {used} {letter} h same low high room =
+      let b = letter_of_lem letter low high in
       record {
         tree = table b.letter;
-        outcome = rw add-one (letter_by_lem h (some b.letter) b.stands);
+        outcome = rw add-one (letter_by_lem h (some b.letter) (ap letter_of (sym same) ∙ b.stands));
         stands = record { within = omega arith; ahead = omega arith; shallow = omega arith; depth = refl };
-        added = rw b.byte (added_byte (get_or line at 0) (omega (arith, room)));
+        added = rw b.byte (added_byte letter (omega (arith, room)));
       }
 
 -- ---- the closing parenthesis
@@ -96,15 +96,10 @@ module _ (line : List ℕ) (at : ℕ) where
 added_none : {code : List ℕ} {used : ℕ} → Added code used [] code used
 added_none {code} {used} = record { count = omega arith; written = sym (append-nil (take used code)) }
 
-module _ {line code : List ℕ} (inner : Place) {call : ℕ} (inside : inner.next < length line) (closing : get_or line inner.next 0 ≡ closing_byte) where
-  pub closed_plain : call ≡ 0 → Closed line inner call code (record { next = inner.next + 1; used = inner.used; depth = inner.depth + 1 }) code
-  closed_plain e =
-      record { inside = inside; closing = closing; next = refl; depth = refl; added = rw e added_none }
+module _ {line code : List ℕ} (inner : Place) (inside : inner.next < length line) (closing : get_or line inner.next 0 ≡ closing_byte) where
+  pub closed_plain : Closed line inner None code (record { next = inner.next + 1; used = inner.used; depth = inner.depth + 1 }) code
+  closed_plain = record { inside = inside; closing = closing; next = refl; depth = refl; added = added_none }
 
-  pub closed_call : (call ≡ 0 → ⊥) → inner.used < length code →
-      Closed line inner call code (record { next = inner.next + 1; used = inner.used + 1; depth = inner.depth + 1 }) (set code inner.used call)
-  closed_call n h = record { inside = inside; closing = closing; next = refl; depth = refl; added = rw (call_code_of call n) (added_byte call h) }
-    where
-      call_code_of : (c : ℕ) → (c ≡ 0 → ⊥) → call_code c ≡ c ∷ []
-      call_code_of zero n = absurd (n refl)
-      call_code_of (suc c) n = refl
+  pub closed_call : (call : ℕ) → inner.used < length code →
+      Closed line inner (Some call) code (record { next = inner.next + 1; used = inner.used + 1; depth = inner.depth + 1 }) (set code inner.used call)
+  closed_call call h = record { inside = inside; closing = closing; next = refl; depth = refl; added = added_byte call h }

@@ -1,36 +1,44 @@
 -- What the readers of a line and of its parts answer, as what the reading function (`recipe_theory`, Reading) gives.
-use Rattle.std.specs.Prelude.{◌≡◌, false, not, List, [], ◌∷◌, ◌++◌, ℕ, zero, suc, ◌+◌, ◌-◌, ◌<◌, ◌≤◌, eqb, ltb, length, take, drop, get_or}
-use Rattle.std.proofs.Math.Option.{Option, some, none}
+use Rattle.std.specs.Prelude.{◌≡◌, false, not, List, [], ◌∷◌, ◌++◌, ℕ, ◌+◌, ◌-◌, ◌<◌, ◌≤◌, Option, Some, None, eqb, ltb, length, take, drop, get_or}
+use Rattle.std.proofs.Math.Option as math
 use Rattle.definitions.specs.Limits.{deepest_nesting}
 use Rattle.definitions.specs.Outcomes.{Outcome, accepted, refused}
 use Rattle.definitions.specs.Refusals.{word_if, or_else}
-use Rattle.definitions.specs.Recipes.{Level, Tree, Sign, sign_byte, Opening, group, exponential, logarithm, inverse, opening_text, closing_byte, nesting}
+use Rattle.definitions.specs.Recipes.{Level, factor, product, alternative, above, Tree, Sign, sign_byte, Opening, group, exponential, logarithm, inverse, opening_text, closing_byte, nesting}
 use Rattle.recipe_theory.specs.Reading.{Parsed, read_level, read_factor, begins}
 use Rattle.recipe_theory.specs.Postfix.{postfix}
+use Rattle.recipe_words.specs.declared.Level as code
+use Rattle.recipe_words.specs.declared.Level.TheVariants.{Sum, Alternative, Product}
 use Rattle.recipe_words.specs.declared.Place.{Place}
-use Rattle.recipe_words.specs.declared.ReadAnswer.{ReadAnswer}
-use Rattle.recipe_words.specs.declared.ReadAnswer.TheVariants.{Read, Refused}
-use Rattle.recipe_words.specs.declared.SignAnswer.{SignAnswer}
-use Rattle.recipe_words.specs.declared.SignAnswer.TheVariants as sign
-use Rattle.recipe_words.specs.declared.OpeningAnswer.{OpeningAnswer}
-use Rattle.recipe_words.specs.declared.OpeningAnswer.TheVariants as opening
+use Rattle.recipe_words.specs.declared.Opening as opens
+
+-- ---- levels
+
+-- the level of the operands
+abbrev pub operand : code.Level → Level
+operand Sum = alternative
+operand Alternative = product
+operand Product = factor
+
+abbrev pub level_of : code.Level → Level
+level_of level = above (operand level)
 
 -- ---- signs and openings
 
-abbrev pub sign_answer : {l : Level} → Option (Sign l) → SignAnswer
-sign_answer none = sign.Nothing
-sign_answer (some s) = sign.Sign (sign_byte s)
+abbrev pub sign_answer : {l : Level} → math.Option (Sign l) → Option ℕ
+sign_answer math.none = None
+sign_answer (math.some s) = Some (sign_byte s)
 
--- the code of a function, 0 for plain parentheses
-abbrev pub call_byte : Opening → ℕ
-call_byte group = 0
-call_byte exponential = 101
-call_byte logarithm = 108
-call_byte inverse = 105
+-- the code of a function, none for plain parentheses
+abbrev pub call_byte : Opening → Option ℕ
+call_byte group = None
+call_byte exponential = Some 101
+call_byte logarithm = Some 108
+call_byte inverse = Some 105
 
-abbrev pub opening_answer : Option Opening → OpeningAnswer
-opening_answer none = opening.Nothing
-opening_answer (some o) = opening.Opened (length (opening_text o)) (call_byte o)
+abbrev pub opening_answer : math.Option Opening → Option opens.Opening
+opening_answer math.none = None
+opening_answer (math.some o) = Some (record { length = length (opening_text o); call = call_byte o })
 
 -- ---- what a reader of a level gives
 
@@ -63,27 +71,27 @@ pub record Taken (l : Level) (line : List ℕ) (at : ℕ) (code : List ℕ) (use
   pub added : Added code used (postfix tree) code' x.used
 
 -- what a reader of a level answers at a place, when so many bytes of code stand there already
-pub record Reads (l : Level) (line : List ℕ) (at : ℕ) (code : List ℕ) (used : ℕ) (r : ReadAnswer) (code' : List ℕ) : Type 0 where
-  pub taken : (x : Place) → r ≡ Read x → Taken l line at code used x code'
-  pub refuses : r ≡ Refused → Gives l (drop at line) (refused 13)
+pub record Reads (l : Level) (line : List ℕ) (at : ℕ) (code : List ℕ) (used : ℕ) (r : Option Place) (code' : List ℕ) : Type 0 where
+  pub taken : (x : Place) → r ≡ Some x → Taken l line at code used x code'
+  pub refuses : r ≡ None → Gives l (drop at line) (refused 13)
 
 -- ---- a closing parenthesis
 
--- the code of a function, nothing for 0
-abbrev pub call_code : ℕ → List ℕ
-call_code zero = []
-call_code (suc c) = suc c ∷ []
+-- the code of a function, if there is one
+abbrev pub call_code : Option ℕ → List ℕ
+call_code None = []
+call_code (Some c) = c ∷ []
 
-pub record Closed (line : List ℕ) (inner : Place) (call : ℕ) (code : List ℕ) (x : Place) (code' : List ℕ) : Type 0 where
+pub record Closed (line : List ℕ) (inner : Place) (call : Option ℕ) (code : List ℕ) (x : Place) (code' : List ℕ) : Type 0 where
   pub inside : inner.next < length line
   pub closing : get_or line inner.next 0 ≡ closing_byte
   pub next : x.next ≡ inner.next + 1
   pub depth : x.depth ≡ inner.depth + 1
   pub added : Added code inner.used (call_code call) code' x.used
 
-abbrev pub Closes : List ℕ → Place → ℕ → List ℕ → ReadAnswer → List ℕ → Type 0
-Closes line inner call code (Read x) code' = Closed line inner call code x code'
-Closes line inner call code Refused code' = begins (closing_byte ∷ []) (drop inner.next line) ≡ false
+abbrev pub Closes : List ℕ → Place → Option ℕ → List ℕ → Option Place → List ℕ → Type 0
+Closes line inner call code (Some x) code' = Closed line inner call code x code'
+Closes line inner call code None code' = begins (closing_byte ∷ []) (drop inner.next line) ≡ false
 
 -- ---- the end of the line
 

@@ -5,15 +5,26 @@
 ghost use Rattle.std.specs.Prelude.{◌≡◌, ◌+◌, ◌<◌, ◌≤◌, max, ltb, length, drop, set};
 ghost use Rattle.std.proofs.Math.Option.{none};
 ghost use Rattle.definitions.specs.Limits.{longest_recipe};
-ghost use Rattle.definitions.specs.Recipes.{factor, product, alternative, sum};
-ghost use Rattle.recipe_theory.specs.Reading.{next_sign, begins, opening_of};
-ghost use Rattle.recipe_words.specs.Answers.{sign_answer, opening_answer, end_word, Room, Reads, Closes};
+ghost use Rattle.definitions.specs.Recipes.{factor};
+ghost use Rattle.recipe_theory.specs.Reading.{next_sign, opening_of};
+ghost use Rattle.refusals.specs.Words.{word_of};
+ghost use Rattle.recipe_words.specs.Answers.{level_of, sign_answer, opening_answer, end_word, Room, Reads, Closes};
+
+use refusals::Refusal;
 
 // The bytes that the line of a recipe may have.
 pub const LONGEST_RECIPE: usize = 120;
 
 // How deep the parentheses of a recipe may nest.
 const DEEPEST_NESTING: usize = 8;
+
+// The levels of a recipe whose operands are joined by signs.
+#[derive(Clone, Copy)]
+pub enum Level {
+    Sum,
+    Alternative,
+    Product,
+}
 
 // Behind a part of a recipe: the place in the line, how many bytes of code there are, and how deep the part nests.
 #[derive(Clone, Copy)]
@@ -23,115 +34,55 @@ pub struct Place {
     pub depth: usize,
 }
 
+// What opens a recipe in parentheses: how many bytes, and the code of the function, if there is one.
 #[derive(Clone, Copy)]
-pub enum ReadAnswer {
-    Read(Place),
-    Refused,
-}
-
-#[derive(Clone, Copy)]
-pub enum SignAnswer {
-    Sign(u8),
-    Nothing,
-}
-
-#[derive(Clone, Copy)]
-pub enum OpeningAnswer {
-    // how many bytes, and the code of the function, 0 for plain parentheses
-    Opened(usize, u8),
-    Nothing,
-}
-
-// Whether a word stands at a place.
-fn begins_with(line: &[u8], at: usize, word: &[u8]) -> bool
-    requires { at ≤ length line.now }
-    ensures { result ≡ begins word.now (drop at line.now) }
-{
-    let mut i = 0;
-    while i < word.len() {
-        if line.len() - at <= i {
-            return false;
-        }
-        if line[at + i] != word[i] {
-            return false;
-        }
-        i += 1;
-    }
-    true
+pub struct Opening {
+    pub length: usize,
+    pub call: Option<u8>,
 }
 
 // What opens at a place.
-pub fn opening_at(line: &[u8], at: usize) -> OpeningAnswer
+pub fn opening_at(line: &[u8], at: usize) -> Option<Opening>
     requires { at ≤ length line.now }
     ensures { result ≡ opening_answer (opening_of (drop at line.now)) }
 {
-    if begins_with(line, at, b"(") {
-        return OpeningAnswer::Opened(1, 0);
+    let rest = &line[at..];
+    if rest.starts_with(b"(") {
+        Some(Opening {
+            length: 1,
+            call: None,
+        })
+    } else if rest.starts_with(b"exp(") {
+        Some(Opening {
+            length: 4,
+            call: Some(b'e'),
+        })
+    } else if rest.starts_with(b"log(") {
+        Some(Opening {
+            length: 4,
+            call: Some(b'l'),
+        })
+    } else if rest.starts_with(b"inv(") {
+        Some(Opening {
+            length: 4,
+            call: Some(b'i'),
+        })
+    } else {
+        None
     }
-    if begins_with(line, at, b"exp(") {
-        return OpeningAnswer::Opened(4, b'e');
-    }
-    if begins_with(line, at, b"log(") {
-        return OpeningAnswer::Opened(4, b'l');
-    }
-    if begins_with(line, at, b"inv(") {
-        return OpeningAnswer::Opened(4, b'i');
-    }
-    OpeningAnswer::Nothing
 }
 
-// The sign between operands of a sum, if one stands at a place.
-pub fn sum_sign(line: &[u8], at: usize) -> SignAnswer
-    ensures { result ≡ sign_answer (next_sign sum (drop at line.now)) }
+// The sign between operands of a level, if one stands at a place.
+pub fn sign_at(level: Level, line: &[u8], at: usize) -> Option<u8>
+    ensures { result ≡ sign_answer (next_sign (level_of level) (drop at line.now)) }
 {
-    if line.len() <= at {
-        return SignAnswer::Nothing;
+    let sign = *line.get(at)?;
+    match (level, sign) {
+        (Level::Sum, b'+' | b'-') => Some(sign),
+        (Level::Alternative, b'|' | b'^') => Some(sign),
+        (Level::Product, b'*') => Some(sign),
+        _ => None,
     }
-    let sign = line[at];
-    if sign == b'+' {
-        return SignAnswer::Sign(sign);
-    }
-    if sign == b'-' {
-        return SignAnswer::Sign(sign);
-    }
-    SignAnswer::Nothing
-}
-
-// The same for an alternative.
-pub fn alternative_sign(line: &[u8], at: usize) -> SignAnswer
-    ensures { result ≡ sign_answer (next_sign alternative (drop at line.now)) }
-{
-    if line.len() <= at {
-        return SignAnswer::Nothing;
-    }
-    let sign = line[at];
-    if sign == b'|' {
-        return SignAnswer::Sign(sign);
-    }
-    if sign == b'^' {
-        return SignAnswer::Sign(sign);
-    }
-    SignAnswer::Nothing
-}
-
-// The same for a product.
-pub fn product_sign(line: &[u8], at: usize) -> SignAnswer
-    ensures { result ≡ sign_answer (next_sign product (drop at line.now)) }
-{
-    if line.len() <= at {
-        return SignAnswer::Nothing;
-    }
-    let sign = line[at];
-    if sign == b'*' {
-        return SignAnswer::Sign(sign);
-    }
-    SignAnswer::Nothing
-}
-
-fn larger(a: usize, b: usize) -> usize
-    ensures { result ≡ max a b }
-{
-    if a < b { b } else { a }
 }
 
 // Behind two operands and the sign between them, whose code is put last.
@@ -140,64 +91,50 @@ pub fn joined(first: Place, sign: u8, second: Place, code: &mut [u8]) -> Place
     ensures next_value { (result.next ≡ second.next) × (result.used ≡ second.used + 1) × (result.depth ≡ max first.depth second.depth) }
     ensures code_after { code.new ≡ set code.old second.used sign }
 {
-    let used = second.used;
-    code[used] = sign;
+    code[second.used] = sign;
     Place {
         next: second.next,
-        used: used + 1,
-        depth: larger(first.depth, second.depth),
+        used: second.used + 1,
+        depth: first.depth.max(second.depth),
     }
 }
 
 // A letter at a place where nothing opens.
-pub fn read_letter(line: &[u8], at: usize, code: &mut [u8], used: usize) -> ReadAnswer
+pub fn read_letter(line: &[u8], at: usize, code: &mut [u8], used: usize) -> Option<Place>
     requires line_value { opening_of (drop at line.now) ≡ none }
     requires room { Room line.now at code.old used }
     ensures { Reads factor line.now at code.old used result code.new }
 {
-    if line.len() <= at {
-        return ReadAnswer::Refused;
+    match *line.get(at)? {
+        letter @ b'A'..=b'D' => {
+            code[used] = letter;
+            Some(Place {
+                next: at + 1,
+                used: used + 1,
+                depth: 0,
+            })
+        }
+        _ => None,
     }
-    let letter = line[at];
-    if letter < b'A' {
-        return ReadAnswer::Refused;
-    }
-    if b'D' < letter {
-        return ReadAnswer::Refused;
-    }
-    code[used] = letter;
-    ReadAnswer::Read(Place {
-        next: at + 1,
-        used: used + 1,
-        depth: 0,
-    })
 }
 
 // Behind the closing parenthesis, with the code of the function, if there is one.
-pub fn closed(line: &[u8], inner: Place, call: u8, code: &mut [u8]) -> ReadAnswer
+pub fn closed(line: &[u8], inner: Place, call: Option<u8>, code: &mut [u8]) -> Option<Place>
     requires depth_le_next { inner.depth ≤ inner.next }
     requires used_in_bounds { inner.next < length line.now → inner.used < length code.old }
     ensures { Closes line.now inner call code.old result code.new }
 {
-    let next = inner.next;
-    if line.len() <= next {
-        return ReadAnswer::Refused;
+    if *line.get(inner.next)? != b')' {
+        return None;
     }
-    if line[next] != b')' {
-        return ReadAnswer::Refused;
+    let mut used = inner.used;
+    if let Some(call) = call {
+        code[used] = call;
+        used += 1;
     }
-    let used = inner.used;
-    if call == 0 {
-        return ReadAnswer::Read(Place {
-            next: next + 1,
-            used: used,
-            depth: inner.depth + 1,
-        });
-    }
-    code[used] = call;
-    ReadAnswer::Read(Place {
-        next: next + 1,
-        used: used + 1,
+    Some(Place {
+        next: inner.next + 1,
+        used,
         depth: inner.depth + 1,
     })
 }
@@ -209,16 +146,15 @@ pub fn too_long(long: usize) -> bool
     LONGEST_RECIPE < long
 }
 
-// What refuses a line whose recipe has been read: 13 if bytes are left behind it, then 14 if it nests too deep; 0 if nothing
-// does.
-pub fn end_word(left: usize, depth: usize) -> u32
-    ensures { result ≡ end_word left depth }
+// What refuses a line whose recipe has been read: bytes that are left behind it, then a recipe that nests too deep.
+pub fn check_end(left: usize, depth: usize) -> Result<(), Refusal>
+    ensures { word_of result ≡ end_word left depth }
 {
     if 0 < left {
-        return 13;
+        return Err(Refusal::Recipe);
     }
     if DEEPEST_NESTING < depth {
-        return 14;
+        return Err(Refusal::Nesting);
     }
-    0
+    Ok(())
 }

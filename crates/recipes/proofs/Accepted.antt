@@ -61,7 +61,9 @@ unfolding entries_word
 entries_each m tables e x =
     by x (all_zero (entry_word m (tables tableA) ∷ entry_word m (tables tableB) ∷ entry_word m (tables tableC) ∷ entry_word m (tables tableD) ∷ []) e)
   where
-    by : (x : Letter) → AllZero (entry_word m (tables tableA) ∷ entry_word m (tables tableB) ∷ entry_word m (tables tableC) ∷ entry_word m (tables tableD) ∷ []) → entry_word m (tables x) ≡ 0
+    by : (x : Letter)
+        → AllZero (entry_word m (tables tableA) ∷ entry_word m (tables tableB) ∷ entry_word m (tables tableC) ∷ entry_word m (tables tableD) ∷ [])
+        → entry_word m (tables x) ≡ 0
     by tableA (a, rest) = a
     by tableB (a, (b, rest)) = b
     by tableC (a, (b, (c, rest))) = c
@@ -74,7 +76,6 @@ module _ {n m : ℕ} {tables : Letter → List ℕ} {r p : ℕ} (lent : Lent n m
   pub ready : {result pad : List ℕ} → length result ≡ r → length pad ≡ p → Ready n modulus 0 result pad
   ready e f =
       record {
-        valid = stands.valid;
         space = record { few = lent.range.few; within = omega arith; long = e ∙ lent.result; room = rw f lent.pad };
         values = tt;
       }
@@ -87,7 +88,6 @@ module _ {n : ℕ} {modulus : Modulus} {result pad : List ℕ} (h : Ready n modu
   pub front_ready : Ready n modulus 0 result (take used pad)
   front_ready =
       record {
-        valid = h.valid;
         space = record { few = h.space.few; within = h.space.within; long = h.space.long; room = omega (arith, part_long usable (le_refl used), is) };
         values = tt;
       }

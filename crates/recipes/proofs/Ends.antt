@@ -78,11 +78,3 @@ module _ (n m : ℕ) (line : List ℕ) (tables : Letter → List ℕ) (result pa
         where
           all_pass : (read : Outcome (Tree sum)) → ReadAs line read → tests read ≡ accepted t
           all_pass read r = to_entries read r ∙ go (entries_word m tables) _ z
-
--- the promise as the call writes it
-pub promised : {n m : ℕ} {line : List ℕ} {tables : Letter → List ℕ} {result pad : List ℕ} {word : ℕ} {result' pad' : List ℕ}
-    → Ends n m line tables result pad word result' pad'
-    → ((read : Outcome (Tree sum)) → ReadAs line read → (by : Choice n m) → word ≡ recipe_number n m read tables by result pad)
-    × (((read : Outcome (Tree sum)) → ReadAs line read → (by : Choice n m) → result' ≡ recipe_result n m read tables by result pad)
-    × ((read : Outcome (Tree sum)) → ReadAs line read → pad' ≡ recipe_pad n m read tables (length result) pad))
-promised e = (e.number, (e.table, e.clears))

@@ -1,8 +1,9 @@
-use Rattle.recipe_operations.proofs.Signs.{pair_ready, added}
+use Rattle.std.proofs.Common.{rules}
+use Rattle.recipe_operations.proofs.Signs.{pair_inputs, added}
 use Rattle.recipe_operations.proofs.add_at.Goals as goal
 
-pub add_places-requires : goal.add_places-requires
-add_places-requires c = pair_ready c.requires c.save.auto.pad c.save.ensures
+pub entry_by_entry-requires-clause-inputs : goal.entry_by_entry-requires-clause-inputs
+entry_by_entry-requires-clause-inputs c = pair_inputs c.requires
 
 pub returns : goal.returns
-returns c = added c.requires c.save.auto.pad c.save.ensures c.add_places.ensures
+returns c = added c.requires c.entry_by_entry.ensures.res_len (λ i h. let e = c.entry_by_entry.ensures.entries i h in search rules)

@@ -1,36 +1,48 @@
-use mathlib.Core.Path.{refl, sym, ◌∙◌}
+use Rattle.std.proofs.Common.{refl, sym, ◌∙◌}
 use Rattle.checks.specs.Answers.{accepted, refused}
+use Rattle.refusals.specs.Handed.{handed_on, handed_word, never_accepts}
 use Rattle.recipes.proofs.Accepted.{lent_accepted, ready, are_tables, code_long, code_in, code_fits}
-use Rattle.recipes.proofs.Ends.{promised, lent_stops, line_stops, entries_stop, calls_end}
+use Rattle.recipes.proofs.Ends.{lent_stops, line_stops, entries_stop, calls_end}
 use Rattle.recipes.proofs.recipe.Goals as goal
 
-pub returns-then-word-ne0 : goal.returns-then-word-ne0
-returns-then-word-ne0 c = let h = c.check_lent.ensures in
-    let coded = c.read_recipe.ensures.coded _ c.in-Code.is in let all = promised (entries_stop _ _ _ _ _ _ (accepted h c.in-Accepted.is) coded.tree coded.recipe c.entries_word-word.ensures c.if-word-ne0.true) in record { value = all.0; res_after = all.1.0; pad_after = all.1.1 }
+pub returns-in_err-modulus : goal.returns-in_err-modulus
+returns-in_err-modulus c = let on = handed_on _ c.from_residual.ensures.1 in
+    let end = lent_stops _ _ _ _ _ _ (handed_word on ∙ refused c.in_err-modulus.ensures refl) (never_accepts on) in
+    record { value = end.number; res_after = end.table; pad_after = end.clears }
+
+pub returns-in_err-used : goal.returns-in_err-used
+returns-in_err-used c = let on = handed_on _ c.from_residual-in_err-used.ensures.1 in
+    let passes = accepted c.in_ok-modulus.ensures refl in
+    let end = line_stops _ _ _ _ _ _ passes (rw (handed_word on) (c.in_err-used.ensures.refuses _ refl)) in
+    record { value = end.number; res_after = end.table; pad_after = end.clears }
+
+pub returns-in_err-test_all_entries : goal.returns-in_err-test_all_entries
+returns-in_err-test_all_entries c = let on = handed_on _ c.from_residual-in_err-test_all_entries.ensures.1 in
+    let passes = accepted c.in_ok-modulus.ensures refl in
+    let coded = c.in_ok-used.ensures.coded _ refl in
+    let word = handed_word on ∙ c.in_err-test_all_entries.ensures in
+    let end = entries_stop _ _ _ _ _ _ passes coded.tree coded.recipe word (never_accepts on) in
+    record { value = end.number; res_after = end.table; pad_after = end.clears }
 
 pub slice_bounds-code-end : goal.slice_bounds-code-end
-slice_bounds-code-end c = code_in (c.read_recipe.ensures.coded _ c.in-Code.is)
+slice_bounds-code-end c = code_in (c.in_ok-used.ensures.coded _ refl)
 
 pub slice_bounds-make_calls-end : goal.slice_bounds-make_calls-end
-slice_bounds-make_calls-end c = code_long (c.read_recipe.ensures.coded _ c.in-Code.is)
+slice_bounds-make_calls-end c = code_long (c.in_ok-used.ensures.coded _ refl)
 
 pub make_calls-requires : goal.make_calls-requires
-make_calls-requires c = let h = c.check_lent.ensures in
-    let e = c.in-Accepted.is in
-    let lent = lent_accepted _ _ _ _ _ (accepted h e) in
-    let stands = h.stands _ e in
-    let entries = sym c.entries_word-word.ensures ∙ c.if-word-ne0.false in record { ready = ready lent stands refl refl; lettered = are_tables lent stands entries; fits = code_fits (c.read_recipe.ensures.coded _ c.in-Code.is) }
+make_calls-requires c = let h = c.in_ok-modulus.ensures in
+    let lent = lent_accepted _ _ _ _ _ (accepted h refl) in
+    let stands = h.stands _ refl in record {
+      ready = ready lent stands refl refl;
+      lettered = are_tables lent stands (sym c.in_ok-test_all_entries.ensures);
+      fits = code_fits (c.in_ok-used.ensures.coded _ refl);
+    }
 
-pub returns-else-word-ne0 : goal.returns-else-word-ne0
-returns-else-word-ne0 c = let h = c.check_lent.ensures in
-    let e = c.in-Accepted.is in
-    let coded = c.read_recipe.ensures.coded _ c.in-Code.is in
-    let made = c.make_calls.ensures in let all = promised (calls_end _ _ _ _ _ _ (accepted h e) coded.tree coded.recipe (sym c.entries_word-word.ensures ∙ c.if-word-ne0.false)
-    (h.stands _ e) (λ by. made.worked by coded.tree coded.written) made.pad_after) in record { value = all.0; res_after = all.1.0; pad_after = all.1.1 }
-
-pub returns-in-Refused-read_recipe : goal.returns-in-Refused-read_recipe
-returns-in-Refused-read_recipe c = let h = c.check_lent.ensures in let all = promised (line_stops _ _ _ _ _ _ (accepted h c.in-Accepted.is) (c.read_recipe.ensures.refuses _ c.in-Refused-read_recipe.is)) in record { value = all.0; res_after = all.1.0; pad_after = all.1.1 }
-
-pub returns-in-Refused : goal.returns-in-Refused
-returns-in-Refused c = let h = c.check_lent.ensures in
-    let e = c.in-Refused.is in let all = promised (lent_stops _ _ _ _ _ _ (refused h e) (h.word _ e)) in record { value = all.0; res_after = all.1.0; pad_after = all.1.1 }
+pub returns : goal.returns
+returns c = let h = c.in_ok-modulus.ensures in
+    let coded = c.in_ok-used.ensures.coded _ refl in
+    let made = c.make_calls.ensures in
+    let end = calls_end _ _ _ _ _ _ (accepted h refl) coded.tree coded.recipe (sym c.in_ok-test_all_entries.ensures) (h.stands _ refl)
+    (λ by. made.worked by coded.tree coded.written) made.pad_after in
+    record { value = end.number; res_after = end.table; pad_after = end.clears }
