@@ -8,19 +8,20 @@ ghost use Rattle.table_header.specs.HeaderAnswers.{kind_is};
 ghost use Rattle.table_writer.specs.Writing.{WrittenBy};
 ghost use Rattle.file_trips.specs.Trips.{WrittenThenRead, ReadThenWritten};
 
+use refusals::Refusal;
 use sparse_writer::write_sparse;
-use table_file::{HeaderAnswer, Kind, read_table};
-use table_writer::{Written, write_table};
+use table_file::{Header, Kind, read_table};
+use table_writer::write_table;
 
 // What the two calls of a round trip answered. A refusal of the first is that of both.
 #[derive(Clone, Copy)]
 pub struct Trip {
-    pub written: Written,
-    pub answer: HeaderAnswer,
+    pub written: Result<u32, Refusal>,
+    pub answer: Result<Header, Refusal>,
 }
 
 // The writer of a kind.
-fn write_kind(kind: Kind, n: u32, m: u32, table: &[u32], buffer: &mut [u8]) -> Written
+fn write_kind(kind: Kind, n: u32, m: u32, table: &[u32], buffer: &mut [u8]) -> Result<u32, Refusal>
     ensures { WrittenBy (kind_is kind) n m table.now (writer_number (kind_is kind) n m table.now (length buffer.old)) buffer.old result buffer.new }
 {
     match kind {
@@ -41,18 +42,18 @@ pub fn write_then_read(
 ) -> Trip
     ensures { WrittenThenRead (kind_is kind) n m table.now buffer.old back.old result buffer.new back.new }
 {
-    let written = write_kind(kind, n, m, table, buffer);
-    if written.number != 0 {
-        return Trip {
-            written: written,
-            answer: HeaderAnswer::Refused(written.number),
-        };
-    }
-    let count = written.count as usize;
-    let answer = read_table(&buffer[..count], back);
-    Trip {
-        written: written,
-        answer: answer,
+    match write_kind(kind, n, m, table, buffer) {
+        Ok(count) => {
+            let answer = read_table(&buffer[..count as usize], back);
+            Trip {
+                written: Ok(count),
+                answer,
+            }
+        }
+        Err(refusal) => Trip {
+            written: Err(refusal),
+            answer: Err(refusal),
+        },
     }
 }
 
@@ -60,19 +61,18 @@ pub fn write_then_read(
 pub fn read_then_write(bytes: &[u8], table: &mut [u32], buffer: &mut [u8]) -> Trip
     ensures { ReadThenWritten bytes.now table.old buffer.old result table.new buffer.new }
 {
-    let answer = read_table(bytes, table);
-    match answer {
-        HeaderAnswer::Header(header) => {
+    match read_table(bytes, table) {
+        Ok(header) => {
             let kind = header.kind;
             let written = write_kind(kind, header.n, header.m, table, buffer);
             Trip {
-                written: written,
-                answer: answer,
+                written,
+                answer: Ok(header),
             }
         }
-        HeaderAnswer::Refused(word) => Trip {
-            written: Written::refused(word),
-            answer: answer,
+        Err(word) => Trip {
+            written: Err(word),
+            answer: Err(word),
         },
     }
 }

@@ -1,5 +1,5 @@
 // The next entry of a table that is not 0.
-#![tactic(auto)]
+#![tactic(auto, using(crate::proofs::Skipping::skipping))]
 
 ghost use Rattle.std.specs.Prelude.{◌≡◌, ◌+◌, ◌≤◌, length};
 ghost use Rattle.nonzero_entries.specs.Entries.{ZerosAt, Skipped, NextEntry};
@@ -14,7 +14,7 @@ fn eight_joined(table: &[u32], from: usize) -> u32
     low | high
 }
 
-// Skips entries that are 0, eight at a time.
+// Skips entries that are 0, eight at a time. Not by `chunks_exact` or `step_by`: what is asked is the place where the loop stops.
 fn skip_eights(table: &[u32], from: usize) -> usize
     requires { from ≤ length table.now }
     ensures { Skipped table.now from result }
@@ -34,12 +34,11 @@ pub fn next_entry(table: &[u32], from: usize) -> usize
     requires { from ≤ length table.now }
     ensures { NextEntry table.now from result }
 {
-    let mut code = skip_eights(table, from);
-    while code < table.len() {
+    let start = skip_eights(table, from);
+    for code in start..table.len() {
         if table[code] != 0 {
             return code;
         }
-        code += 1;
     }
-    code
+    table.len()
 }

@@ -2,13 +2,14 @@
 use mathlib.Core.Path.{◌≡◌, refl, sym, ◌∙◌, ap, subst}
 use mathlib.Core.Bool.{Bool, true, false, cond, not, ◌&&◌, and-false}
 use mathlib.Core.List.{List, ◌∷◌}
+use Rattle.std.specs.Prelude.{Result, Ok, Err}
 use mathlib.Core.Logic.{⊎_elim}
 use Prim.Native.Nat.{ℕ, ◌+◌, ◌-◌, ◌*◌, ◌%◌, ◌^◌, ◌<◌, ◌≤◌}
 use native.Mathlib.Numerals.{add-one}
 use native.Mathlib.Nat.{mul-le-mul_left, mul-le-mul_right, mod-eq_of_lt}
 use native.Mathlib.Omega.{arith}
 use lib.Dec.{ltb}
-use lib.ListN.{length, drop, get_or, drop_of_length-le}
+use lib.ListN.{length, drop, drop_of_length-le}
 use lib.Seq.{drop-cons}
 use borrow.Author.Tests.{lt-ltb, le-ltb, ltb-true, ltb-false}
 use Rattle.definitions.specs.Outcomes.{Outcome, accepted, refused, and_then, unless}
@@ -16,10 +17,11 @@ use Rattle.definitions.specs.Refusals.{word_if}
 use Rattle.definitions.specs.Groups.{Numeral, in_front, read_number}
 use Rattle.theory.specs.Tests.{zero_is_not_one, below_or}
 use Rattle.number_groups.specs.Numbers.{reads_none, reads_last, reads_more, reads_word}
-use Rattle.number_groups.specs.NumberAnswers.{IsGroup, placed, outcome_of, next_of, in_front_of, ending_in, fifth_group, ReadsAt, ReadsBehind, cut_to32}
+use Rattle.number_groups.specs.NumberAnswers.{ByteIs, NoByte, IsGroup, placed, outcome_of, next_of, in_front_of, ending_in, fifth_group, ReadsAt, ReadsBehind, cut_to32}
 use Rattle.number_groups.specs.declared.Group.{Group}
-use Rattle.number_groups.specs.declared.NumberAnswer.{NumberAnswer}
-use Rattle.number_groups.specs.declared.NumberAnswer.TheVariants.{Number, Refused}
+use Rattle.number_groups.specs.declared.Numeral as code
+use Rattle.refusals.specs.declared.Refusal.{Refusal}
+use Rattle.refusals.specs.declared.Refusal.TheVariants as refusal
 
 -- seven bits times a scale
 pub group_fits : (scale : ℕ) {group : ℕ} → group < 128 → scale * group ≤ scale * 127
@@ -29,8 +31,8 @@ pub low_bits_fit : (scale : ℕ) {byte : ℕ} → byte < 256 → scale * (byte -
 low_bits_fit scale h = mul-le-mul_left scale (omega arith)
 
 -- a group at a place
-pub is_group : {bytes : List ℕ} {at byte : ℕ} → byte ≡ get_or bytes at 0 → byte < 256 → IsGroup bytes at (record { byte = byte; next = at + 1 })
-is_group same small = record { byte_is = same; byte_small = small; next_is = refl }
+pub is_group : {bytes : List ℕ} {at byte : ℕ} → ByteIs bytes at byte → IsGroup bytes at (record { byte = byte; next = at + 1 })
+is_group b = record { byte_is = b.byte_is; byte_small = b.byte_small; next_is = refl }
 
 module _ {bytes : List ℕ} {at : ℕ} {g : Group} (inside : at < length bytes) (group : IsGroup bytes at g) where
   opened : drop at bytes ≡ g.byte ∷ drop g.next bytes
@@ -81,21 +83,21 @@ sixth low scale (accepted x) h w = sixth_by low scale x _ _ h refl refl
 
 module _ (bytes : List ℕ) (v next : ℕ) where
   answered : (t : Bool) →
-      outcome_of bytes (cond t (Number (record { value = v; next = next })) (Refused 8))
+      outcome_of bytes (cond t (Ok (record { value = v; next = next })) (Err refusal.Group))
       ≡ unless (word_if (not t) 8) (accepted (record { value = v; rest = drop next bytes }))
   answered true = refl
   answered false = refl
 
-  answered_within : (t : Bool) → next ≤ length bytes → next_of (cond t (Number (record { value = v; next = next })) (Refused 8)) ≤ length bytes
+  answered_within : (t : Bool) → next ≤ length bytes → next_of (cond t (Ok (record { value = v; next = next })) (Err refusal.Group)) ≤ length bytes
   answered_within true h = h
   answered_within false h = omega arith
 
 -- ---- a group at a place, which counts scale times, behind groups that are worth low
 
 -- low and a last group
-abbrev last_group : ℕ → ℕ → Group → NumberAnswer
+abbrev last_group : ℕ → ℕ → Group → Result code.Numeral Refusal
 last_group low scale g =
-    cond (ltb 0 g.byte && ltb (low + scale * g.byte) (2 ^ 32)) (Number (record { value = low + scale * g.byte; next = g.next })) (Refused 8)
+    cond (ltb 0 g.byte && ltb (low + scale * g.byte) (2 ^ 32)) (Ok (record { value = low + scale * g.byte; next = g.next })) (Err refusal.Group)
 
 both_true : (t : Bool) → (t && true) ≡ t
 both_true true = refl
@@ -115,8 +117,8 @@ module _ (low scale : ℕ) (bytes : List ℕ) (at : ℕ) where
   none_there : length bytes ≤ at → and_then (read_number (drop at bytes)) (in_front_of low scale) ≡ refused 8
   none_there h = rw (drop_of_length-le bytes h, reads_none)
 
-  pub ends_early : length bytes ≤ at → ReadsBehind low scale bytes at (Refused 8)
-  ends_early h = record { outcome = sym (none_there h); within = omega arith }
+  pub ends_early : {r : Result code.Numeral Refusal} {e : Refusal} → NoByte bytes at e → r ≡ Err e → ReadsBehind low scale bytes at r
+  ends_early none e = rw (e, none.is_group) (record { outcome = sym (none_there none.behind); within = omega arith })
 
   module _ {g : Group} (inside : at < length bytes) (group : IsGroup bytes at g) where
     ends_as : g.byte < 128 → and_then (read_number (drop at bytes)) (in_front_of low scale) ≡ outcome_of bytes (last_group low scale g)
@@ -125,13 +127,13 @@ module _ (low scale : ℕ) (bytes : List ℕ) (at : ℕ) where
         ∙ ap (λ (o : Outcome Numeral). and_then o (in_front_of low scale)) (reads_last g.byte (drop g.next bytes) h)
         ∙ sym (answered bytes (low + scale * g.byte) g.next (ltb 0 g.byte && ltb (low + scale * g.byte) (2 ^ 32)))
 
-    ends_here : g.byte < 128 → {r : NumberAnswer} → r ≡ last_group low scale g → ReadsBehind low scale bytes at r
+    ends_here : g.byte < 128 → {r : Result code.Numeral Refusal} → r ≡ last_group low scale g → ReadsBehind low scale bytes at r
     ends_here h e = record {
       outcome = rw e (sym (ends_as h));
       within = rw e (answered_within bytes (low + scale * g.byte) g.next (ltb 0 g.byte && ltb (low + scale * g.byte) (2 ^ 32)) (within inside group));
     }
 
-    pub ends_in : g.byte < 128 → low + scale * g.byte < 2 ^ 32 → {r : NumberAnswer} → r ≡ ending_in (low + scale * g.byte) g.byte g.next → ReadsBehind low scale bytes at r
+    pub ends_in : g.byte < 128 → low + scale * g.byte < 2 ^ 32 → {r : Result code.Numeral Refusal} → r ≡ ending_in (low + scale * g.byte) g.byte g.next → ReadsBehind low scale bytes at r
     ends_in h l e = ends_here h (e ∙ small_last low scale g l)
 
     pub goes_on : low < scale → 128 ≤ g.byte → GoesOn low scale bytes at (low + scale * (g.byte - 128)) g.next
@@ -143,14 +145,14 @@ module _ (low scale : ℕ) (bytes : List ℕ) (at : ℕ) where
     }
 
 -- what stands behind it
-pub behind : {low scale : ℕ} {bytes : List ℕ} {at whole next : ℕ} {r : NumberAnswer} → GoesOn low scale bytes at whole next →
+pub behind : {low scale : ℕ} {bytes : List ℕ} {at whole next : ℕ} {r : Result code.Numeral Refusal} → GoesOn low scale bytes at whole next →
     ReadsBehind whole (scale * 128) bytes next r → ReadsBehind low scale bytes at r
 behind g b = record { outcome = b.outcome ∙ sym g.outcome; within = b.within }
 
 -- ---- the fifth group
 
 module _ (low : ℕ) (bytes : List ℕ) (at : ℕ) {g : Group} (inside : at < length bytes) (group : IsGroup bytes at g) (small : low < 268435456) where
-  last_fifth : (t : Bool) → ltb 15 g.byte ≡ t → cond t (Refused 8) (ending_in (low + 268435456 * g.byte) g.byte g.next) ≡ last_group low 268435456 g
+  last_fifth : (t : Bool) → ltb 15 g.byte ≡ t → cond t (Err refusal.Group) (ending_in (low + 268435456 * g.byte) g.byte g.next) ≡ last_group low 268435456 g
   last_fifth true e =
       let l : 15 < g.byte = ltb-true 15 g.byte e in
       rw (le-ltb (low + 268435456 * g.byte) (2 ^ 32) (omega arith), and-false (ltb 0 g.byte))
@@ -163,10 +165,10 @@ module _ (low : ℕ) (bytes : List ℕ) (at : ℕ) {g : Group} (inside : at < le
       (goes_on low 268435456 bytes at inside group small h).outcome
       ∙ sixth (low + 268435456 * (g.byte - 128)) (268435456 * 128) (read_number (drop g.next bytes)) (omega arith) (reads_word (drop g.next bytes))
 
-  refused_fifth : 15 < g.byte → fifth_group low g.byte g.next ≡ Refused 8
+  refused_fifth : 15 < g.byte → fifth_group low g.byte g.next ≡ Err refusal.Group
   refused_fifth h = rw (lt-ltb 15 g.byte h)
 
-  pub ends_fifth : {r : NumberAnswer} → r ≡ fifth_group low g.byte g.next → ReadsBehind low 268435456 bytes at r
+  pub ends_fifth : {r : Result code.Numeral Refusal} → r ≡ fifth_group low g.byte g.next → ReadsBehind low 268435456 bytes at r
   ends_fifth e = ⊎_elim
       (λ (h : g.byte < 128). ends_here low 268435456 bytes at inside group h (e ∙ last_fifth (ltb 15 g.byte) refl))
       (λ (h : 128 ≤ g.byte).
@@ -179,8 +181,8 @@ module _ (bytes : List ℕ) (at : ℕ) where
   nothing_there : length bytes ≤ at → read_number (drop at bytes) ≡ refused 8
   nothing_there h = rw (drop_of_length-le bytes h) reads_none
 
-  pub no_group : length bytes ≤ at → ReadsAt bytes at (Refused 8)
-  no_group h = record { outcome = sym (nothing_there h); within = omega arith }
+  pub no_group : {r : Result code.Numeral Refusal} {e : Refusal} → NoByte bytes at e → r ≡ Err e → ReadsAt bytes at r
+  no_group none e = rw (e, none.is_group) (record { outcome = sym (nothing_there none.behind); within = omega arith })
 
   module _ {g : Group} (inside : at < length bytes) (group : IsGroup bytes at g) where
     one_as : g.byte < 128 → read_number (drop at bytes) ≡ accepted (record { value = g.byte; rest = drop g.next bytes })
@@ -189,10 +191,10 @@ module _ (bytes : List ℕ) (at : ℕ) where
     pub more_as : 128 ≤ g.byte → read_number (drop at bytes) ≡ and_then (read_number (drop g.next bytes)) (in_front_of (g.byte - 128) 128)
     more_as h = rw (opened inside group) (reads_more g.byte (drop g.next bytes) h)
 
-    pub one_group : g.byte < 128 → ReadsAt bytes at (Number (record { value = g.byte; next = g.next }))
+    pub one_group : g.byte < 128 → ReadsAt bytes at (Ok (record { value = g.byte; next = g.next }))
     one_group h = record { outcome = sym (one_as h); within = within inside group }
 
-    pub more_groups : 128 ≤ g.byte → {r : NumberAnswer} → ReadsBehind (g.byte - 128) 128 bytes g.next r → ReadsAt bytes at r
+    pub more_groups : 128 ≤ g.byte → {r : Result code.Numeral Refusal} → ReadsBehind (g.byte - 128) 128 bytes g.next r → ReadsAt bytes at r
     more_groups h b = record { outcome = b.outcome ∙ sym (more_as h); within = b.within }
 
 -- ---- a number that stands there, read again
@@ -234,7 +236,7 @@ module _ {bytes : List ℕ} {x : Numeral} {low scale at : ℕ} (rest : Rest byte
 
   module _ {g : Group} (group : IsGroup bytes at g) where
     last_by : (some small : Bool) → ltb (low + scale * g.byte) (2 ^ 32) ≡ small →
-        outcome_of bytes (cond (some && small) (Number (record { value = low + scale * g.byte; next = g.next })) (Refused 8)) ≡ accepted x →
+        outcome_of bytes (cond (some && small) (Ok (record { value = low + scale * g.byte; next = g.next })) (Err refusal.Group)) ≡ accepted x →
         placed bytes (cut_to32 (low + scale * g.byte) g.next) ≡ x
     last_by true true h e =
         let whole : (low + scale * g.byte) % 2 ^ 32 ≡ low + scale * g.byte = mod-eq_of_lt (ltb-true _ _ h) in

@@ -23,6 +23,8 @@ four_long v l h = more_long 3 v (omega arith) (omega arith) (three_long (v / 128
 pub five_long : (v : ℕ) → 128 ^ 4 ≤ v → v < 2 ^ 32 → length (groups v) ≡ 5
 five_long v l h = more_long 4 v (omega arith) (omega arith) (four_long (v / 128) (omega arith) (omega arith))
 
+pub ruleset lengths = (one_long, two_long, three_long, four_long, five_long)
+
 -- ---- the loop
 
 -- so much of a value is to be written yet, and then the buffer is as it is to be
@@ -57,3 +59,5 @@ module _ (value at : ℕ) (old buffer : List ℕ) (rest place : ℕ) (left : Gro
 
     pub none_left : set buffer place rest ≡ sets old at (groups value)
     none_left = ap (λ (gs : List ℕ). sets buffer place gs) (sym (groups-last rest last)) ∙ left.gives
+
+pub ruleset writing = (room, last_room, ends_at, none_left)

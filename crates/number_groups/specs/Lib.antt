@@ -1,3 +1,4 @@
 pub mod Numbers
+pub mod Outcomes
 pub mod NumberAnswers
 pub mod Stores

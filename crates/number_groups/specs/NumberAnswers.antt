@@ -1,13 +1,29 @@
 -- What the calls that read a number answer, as the outcomes of the definitions.
-use Rattle.std.specs.Prelude.{◌≡◌, cond, not, ◌&&◌, List, ℕ, ◌+◌, ◌*◌, ◌%◌, ◌^◌, ◌<◌, ◌≤◌, ltb, length, drop, get_or}
+use Rattle.std.specs.Prelude.{◌≡◌, Result, Ok, Err, cond, not, ◌&&◌, List, ℕ, ◌+◌, ◌*◌, ◌%◌, ◌^◌, ◌<◌, ◌≤◌, ltb, length, drop, get_or}
 use Rattle.std.proofs.Common.{sym, ◌∙◌, ap}
-use Rattle.definitions.specs.Outcomes.{Outcome, accepted, refused, and_then, unless}
+use Rattle.refusals.specs.declared.Refusal.{Refusal}
+use Rattle.refusals.specs.declared.Refusal.TheVariants as refusal
+use Rattle.definitions.specs.Outcomes.{Outcome, accepted, and_then, unless}
 use Rattle.definitions.specs.Refusals.{word_if}
 use Rattle.definitions.specs.Groups as def
+pub use Rattle.number_groups.specs.Outcomes.{outcome, handed_on}
 use Rattle.number_groups.specs.declared.Group.{Group}
 use Rattle.number_groups.specs.declared.Numeral.{Numeral}
-use Rattle.number_groups.specs.declared.NumberAnswer.{NumberAnswer}
-use Rattle.number_groups.specs.declared.NumberAnswer.TheVariants.{Number, Refused}
+
+-- a byte that stands at a place
+pub record ByteIs (bytes : List ℕ) (at byte : ℕ) : Type 0 where
+  pub inside : at < length bytes
+  pub byte_is : byte ≡ get_or bytes at 0
+  pub byte_small : byte < 256
+
+-- behind the end no byte stands, and the word is 8
+pub record NoByte (bytes : List ℕ) (at : ℕ) (r : Refusal) : Type 0 where
+  pub behind : length bytes ≤ at
+  pub is_group : r ≡ refusal.Group
+
+abbrev pub ByteAt : List ℕ → ℕ → Result ℕ Refusal → Type 0
+ByteAt bytes at (Ok byte) = ByteIs bytes at byte
+ByteAt bytes at (Err r) = NoByte bytes at r
 
 -- the byte at a place, and the place behind it
 pub record IsGroup (bytes : List ℕ) (at : ℕ) (r : Group) : Type 0 where
@@ -20,21 +36,20 @@ abbrev pub placed : List ℕ → Numeral → def.Numeral
 placed bytes x = record { value = x.value; rest = drop x.next bytes }
 
 -- the value and the bytes behind it, or the word
-abbrev pub outcome_of : List ℕ → NumberAnswer → Outcome def.Numeral
-outcome_of bytes (Number x) = accepted (placed bytes x)
-outcome_of bytes (Refused k) = refused k
+abbrev pub outcome_of : List ℕ → Result Numeral Refusal → Outcome def.Numeral
+outcome_of bytes r = outcome (placed bytes) r
 
 -- the place behind the number, and 0 if refused
-abbrev pub next_of : NumberAnswer → ℕ
-next_of (Number x) = x.next
-next_of (Refused k) = 0
+abbrev pub next_of : Result Numeral Refusal → ℕ
+next_of (Ok x) = x.next
+next_of (Err r) = 0
 
 -- what stands at a place
-pub record ReadsAt (bytes : List ℕ) (at : ℕ) (r : NumberAnswer) : Type 0 where
+pub record ReadsAt (bytes : List ℕ) (at : ℕ) (r : Result Numeral Refusal) : Type 0 where
   pub outcome : outcome_of bytes r ≡ def.read_number (drop at bytes)
   pub within : next_of r ≤ length bytes
 
-pub read_as : {bytes : List ℕ} {at : ℕ} {r : NumberAnswer} → ReadsAt bytes at r → (o : NumberAnswer) → r ≡ o → outcome_of bytes o ≡ def.read_number (drop at bytes)
+pub read_as : {bytes : List ℕ} {at : ℕ} {r : Result Numeral Refusal} → ReadsAt bytes at r → (o : Result Numeral Refusal) → r ≡ o → outcome_of bytes o ≡ def.read_number (drop at bytes)
 read_as {bytes} reads o e = ap (outcome_of bytes) (sym e) ∙ reads.outcome
 
 -- groups that are worth low in front of a number, whose own groups count scale times as much
@@ -44,17 +59,17 @@ in_front_of low scale x =
     (accepted (record { value = low + scale * x.value; rest = x.rest }))
 
 -- what stands at a place, behind such groups
-pub record ReadsBehind (low scale : ℕ) (bytes : List ℕ) (at : ℕ) (r : NumberAnswer) : Type 0 where
+pub record ReadsBehind (low scale : ℕ) (bytes : List ℕ) (at : ℕ) (r : Result Numeral Refusal) : Type 0 where
   pub outcome : outcome_of bytes r ≡ and_then (def.read_number (drop at bytes)) (in_front_of low scale)
   pub within : next_of r ≤ length bytes
 
 -- a number whose last group is this one: 8 if that is 0
-abbrev pub ending_in : ℕ → ℕ → ℕ → NumberAnswer
-ending_in whole group next = cond (ltb 0 group) (Number (record { value = whole; next = next })) (Refused 8)
+abbrev pub ending_in : ℕ → ℕ → ℕ → Result Numeral Refusal
+ending_in whole group next = cond (ltb 0 group) (Ok (record { value = whole; next = next })) (Err refusal.Group)
 
 -- groups that are worth low, and a fifth one: 8 if the value is 2 ^ 32 or more or another group follows, for 2 ^ 28 · 16 = 2 ^ 32
-abbrev pub fifth_group : ℕ → ℕ → ℕ → NumberAnswer
-fifth_group low group next = cond (ltb 15 group) (Refused 8) (ending_in (low + 268435456 * group) group next)
+abbrev pub fifth_group : ℕ → ℕ → ℕ → Result Numeral Refusal
+fifth_group low group next = cond (ltb 15 group) (Err refusal.Group) (ending_in (low + 268435456 * group) group next)
 
 -- something is accepted
 abbrev pub Accepts : {X : Type 0} → Outcome X → Type 0

@@ -5,10 +5,9 @@
 ghost use Rattle.std.specs.Prelude.{◌≡◌, ◌+◌, ◌*◌, ◌^◌, ◌<◌, ◌≤◌, length, drop};
 ghost use Rattle.std.proofs.lemmas.List.Edits.{sets};
 ghost use Rattle.definitions.specs.Groups.{groups, read_number};
-ghost use Rattle.number_groups.specs.NumberAnswers.{IsGroup, ReadsAt, ReadsBehind, ending_in, fifth_group, Accepts, ReadsAgain, cut_to32};
+ghost use Rattle.number_groups.specs.NumberAnswers.{ByteAt, IsGroup, ReadsAt, ReadsBehind, ending_in, fifth_group, Accepts, ReadsAgain, cut_to32};
 
-// 01's number for a refused group.
-const GROUP: u32 = 8;
+use refusals::Refusal;
 
 // A number that stands in a file, and the place behind it.
 #[derive(Clone, Copy)]
@@ -17,96 +16,77 @@ pub struct Numeral {
     pub next: usize,
 }
 
-#[derive(Clone, Copy)]
-pub enum NumberAnswer {
-    Number(Numeral),
-    // 01's number of the refusal
-    Refused(u32),
-}
-
-fn wide(byte: u8) -> u64
-    ensures { (result ≡ byte) × (result < 256) }
+// The byte at a place.
+fn byte_at(bytes: &[u8], at: usize) -> Result<u64, Refusal>
+    ensures { ByteAt bytes.now at result }
 {
-    byte as u64
+    let byte = *bytes.get(at).ok_or(Refusal::Group)?;
+    Ok(u64::from(byte))
 }
 
 // The number that stands at a place.
-pub fn read_number(bytes: &[u8], at: usize) -> NumberAnswer
+pub fn read_number(bytes: &[u8], at: usize) -> Result<Numeral, Refusal>
     ensures { ReadsAt bytes.now at result }
 {
-    if bytes.len() <= at {
-        return NumberAnswer::Refused(GROUP);
-    }
-    let first = bytes[at];
+    let first = byte_at(bytes, at)?;
     let next = at + 1;
     if first < 128 {
-        return NumberAnswer::Number(Numeral {
+        return Ok(Numeral {
             value: first as u32,
-            next: next,
+            next,
         });
     }
-    read_groups(bytes, next, wide(first) - 128)
+    read_groups(bytes, next, first - 128)
 }
 
 // The number whose lowest group was read, and whose other groups stand at a place. They are written out, for a loop is slower.
-fn read_groups(bytes: &[u8], at: usize, lowest: u64) -> NumberAnswer
+fn read_groups(bytes: &[u8], at: usize, lowest: u64) -> Result<Numeral, Refusal>
     requires { lowest < 128 }
     ensures { ReadsBehind lowest 128 bytes.now at result }
 {
-    if bytes.len() <= at {
-        return NumberAnswer::Refused(GROUP);
-    }
-    let second = wide(bytes[at]);
+    let second = byte_at(bytes, at)?;
     let third_at = at + 1;
     if second < 128 {
         return last_group(lowest + 128 * second, second, third_at);
     }
     let two = lowest + 128 * (second - 128);
-    if bytes.len() <= third_at {
-        return NumberAnswer::Refused(GROUP);
-    }
-    let third = wide(bytes[third_at]);
+    let third = byte_at(bytes, third_at)?;
     let fourth_at = third_at + 1;
     if third < 128 {
         return last_group(two + 16384 * third, third, fourth_at);
     }
     let three = two + 16384 * (third - 128);
-    if bytes.len() <= fourth_at {
-        return NumberAnswer::Refused(GROUP);
-    }
-    let fourth = wide(bytes[fourth_at]);
+    let fourth = byte_at(bytes, fourth_at)?;
     let fifth_at = fourth_at + 1;
     if fourth < 128 {
         return last_group(three + 2097152 * fourth, fourth, fifth_at);
     }
     let four = three + 2097152 * (fourth - 128);
-    if bytes.len() <= fifth_at {
-        return NumberAnswer::Refused(GROUP);
-    }
-    fifth_group(four, wide(bytes[fifth_at]), fifth_at + 1)
+    let fifth = byte_at(bytes, fifth_at)?;
+    fifth_group(four, fifth, fifth_at + 1)
 }
 
 // A number by its last group, which is not 0, for then the form would not be the shortest.
-fn last_group(whole: u64, group: u64, next: usize) -> NumberAnswer
+fn last_group(whole: u64, group: u64, next: usize) -> Result<Numeral, Refusal>
     requires { whole < 2 ^ 32 }
     ensures { result ≡ ending_in whole group next }
 {
     if group == 0 {
-        return NumberAnswer::Refused(GROUP);
+        return Err(Refusal::Group);
     }
-    NumberAnswer::Number(Numeral {
+    Ok(Numeral {
         value: whole as u32,
-        next: next,
+        next,
     })
 }
 
 // A number with a fifth group, which is the last one and has four bits: values stay below 2^32.
-fn fifth_group(low: u64, group: u64, next: usize) -> NumberAnswer
+fn fifth_group(low: u64, group: u64, next: usize) -> Result<Numeral, Refusal>
     requires { low < 268435456 }
     ensures { result ≡ fifth_group low group next }
 {
     if 15 < group {
-        return NumberAnswer::Refused(GROUP);
+        return Err(Refusal::Group);
     }
     last_group(low + 268435456 * group, group, next)
 }
@@ -123,7 +103,7 @@ fn group_at(bytes: &[u8], at: usize) -> Group
     ensures { IsGroup bytes.now at result }
 {
     Group {
-        byte: wide(bytes[at]),
+        byte: u64::from(bytes[at]),
         next: at + 1,
     }
 }
@@ -163,11 +143,12 @@ fn cut_to_32(whole: u64, next: usize) -> Numeral
 {
     Numeral {
         value: (whole % 4294967296) as u32,
-        next: next,
+        next,
     }
 }
 
 // How many groups a value has.
+#[tactic(auto, using(crate::proofs::GroupWrites::lengths))]
 pub fn number_length(value: u32) -> u32
     ensures { (result ≡ length (groups value)) × (result ≤ 5) }
 {
@@ -185,6 +166,7 @@ pub fn number_length(value: u32) -> u32
 }
 
 // Writes a value at a place, and answers the place behind it.
+#[tactic(auto, using(crate::proofs::GroupWrites::writing))]
 pub fn write_number(value: u32, at: usize, buffer: &mut [u8]) -> usize
     requires { at + length (groups value) ≤ length buffer.old }
     ensures value { result ≡ at + length (groups value) }

@@ -1,121 +1,56 @@
 -- The steps of reading a sparse table.
 use mathlib.Core.Path.{◌≡◌, refl, sym, ◌∙◌, ap}
-use mathlib.Core.List.{List, [], ◌∷◌, ◌++◌, append_assoc, append-nil}
+use mathlib.Core.List.{List, [], ◌∷◌, ◌++◌, append_assoc}
 use Prim.Native.Nat.{ℕ, zero, suc, ◌+◌, ◌-◌, ◌<◌, ◌≤◌}
 use native.Mathlib.Omega.{arith}
-use lib.ListN.{length, drop, set, length-set, length-append, drop_of_length-le}
+use Rattle.std.specs.Prelude.{Result, Ok, Err, replicate}
+use Rattle.std.specs.Result.{IsErrAnd}
+use lib.ListN.{length, drop, set, length-set, length-append}
 use lib.Seq.{set_at}
-use borrow.Author.Tests.{lt-ltb, le-ltb, eq-eqb, ne_eqb}
-use Rattle.definitions.specs.Outcomes.{Outcome, accepted, refused, and_then, number_of}
-use Rattle.definitions.specs.Refusals.{cleared}
+use Rattle.definitions.specs.Outcomes.{Outcome, accepted, and_then, number_of}
 use Rattle.definitions.specs.Groups as groups
 use Rattle.definitions.specs.Files as def
 use Rattle.definitions.specs.Files.{Entries, leads_on, counts, read_gap, read_value, read_pair, read_pairs, read_contents, zeros, sparse}
-use Rattle.theory.specs.Gaps.{length-zeros, zeros-append, zeros-tabulate}
-use Rattle.number_groups.specs.NumberAnswers.{placed, Accepts, ReadsAt, ReadsAgain, outcome_of, read_as}
+use Rattle.theory.specs.Gaps.{length-zeros, zeros-append}
+use Rattle.refusals.specs.Words.{word_of}
+use Rattle.refusals.specs.declared.Refusal.{Refusal}
+use Rattle.number_groups.specs.Outcomes.{handed_on}
+use Rattle.number_groups.specs.NumberAnswers.{placed, Accepts, ReadsAgain}
 use Rattle.number_groups.specs.declared.Numeral.{Numeral}
-use Rattle.number_groups.specs.declared.NumberAnswer.TheVariants.{Number, Refused}
 use Rattle.table_header.specs.Words.{Passed, passed}
 use Rattle.table_header.specs.Ends.{to_end, number_in_front, number_unless, at_tail, at_end_lem}
-use Rattle.sparse_file.specs.Pairs.{pair_outcome, Fills}
+use Rattle.sparse_file.specs.Pairs.{pair_at, pair_outcome, Fills}
 use Rattle.sparse_file.specs.PairLaws.{pair_read, pairs_none, pairs_stop, pairs_go, FirstPair, first_pair}
 use Rattle.sparse_file.specs.declared.Pair.{Pair}
-use Rattle.sparse_file.specs.declared.PairAnswer.TheVariants as answer
 
--- ---- one number
-
-module _ (bytes : List ℕ) (place : ℕ) {r : _} (reads : ReadsAt bytes place r) where
-  module _ (left : ℕ) where
-    gap_by : (o : _) → r ≡ o → and_then (outcome_of bytes o) (leads_on left) ≡ read_gap left (drop place bytes)
-    unfolding read_gap
-    gap_by o e = ap (λ (p : Outcome groups.Numeral). and_then p (leads_on left)) (read_as reads o e)
-
-    pub no_gap : {w : ℕ} → r ≡ Refused w → refused w ≡ read_gap left (drop place bytes)
-    no_gap {w} e = gap_by (Refused w) e
-
-    pub a_gap : {x : Numeral} → r ≡ Number x → x.value < left → accepted (placed bytes x) ≡ read_gap left (drop place bytes)
-    a_gap {x} e h = rw (lt-ltb x.value left h) at (gap_by (Number x) e)
-
-    pub wide_gap : {x : Numeral} → r ≡ Number x → left ≤ x.value → refused 15 ≡ read_gap left (drop place bytes)
-    wide_gap {x} e h = rw (le-ltb x.value left h) at (gap_by (Number x) e)
-
-  module _ (m : ℕ) where
-    value_by : (o : _) → r ≡ o → and_then (outcome_of bytes o) (counts m) ≡ read_value m (drop place bytes)
-    unfolding read_value
-    value_by o e = ap (λ (p : Outcome groups.Numeral). and_then p (counts m)) (read_as reads o e)
-
-    pub no_value : {w : ℕ} → r ≡ Refused w → refused w ≡ read_value m (drop place bytes)
-    no_value {w} e = value_by (Refused w) e
-
-    pub zero_value : {x : Numeral} → r ≡ Number x → x.value ≡ 0 → refused 16 ≡ read_value m (drop place bytes)
-    zero_value {x} e h = rw (eq-eqb x.value 0 h) at (value_by (Number x) e)
-
-    module _ {x : Numeral} (e : r ≡ Number x) (some : x.value ≡ 0 → ⊥) where
-      pub a_value : x.value < m → accepted (placed bytes x) ≡ read_value m (drop place bytes)
-      a_value h = rw (ne_eqb x.value 0 some, lt-ltb x.value m h) at (value_by (Number x) e)
-
-      pub large_value : m ≤ x.value → refused 5 ≡ read_value m (drop place bytes)
-      large_value h = rw (ne_eqb x.value 0 some, le-ltb x.value m h) at (value_by (Number x) e)
-
--- ---- one entry
-
-abbrev with_value : groups.Numeral → groups.Numeral → Outcome def.Pair
-with_value gap x = accepted (record { gap = gap.value; value = x.value; rest = x.rest })
-
-abbrev with_gap : ℕ → groups.Numeral → Outcome def.Pair
-with_gap m gap = and_then (read_value m gap.rest) (with_value gap)
-
-module _ (left m : ℕ) (bytes : List ℕ) (place : ℕ) {r : _} (gapped : outcome_of bytes r ≡ read_gap left (drop place bytes)) where
-  pair_by : (o : _) → r ≡ o → and_then (outcome_of bytes o) (with_gap m) ≡ read_pair left m (drop place bytes)
-  unfolding read_pair
-  pair_by o e = ap (λ (p : Outcome groups.Numeral). and_then p (with_gap m)) (ap (outcome_of bytes) (sym e) ∙ gapped)
-
-  pub no_pair_gap : {w : ℕ} → r ≡ Refused w → refused w ≡ read_pair left m (drop place bytes)
-  no_pair_gap {w} e = pair_by (Refused w) e
-
-  module _ {x : Numeral} (e : r ≡ Number x) {s : _} (valued : outcome_of bytes s ≡ read_value m (drop x.next bytes)) where
-    both_by : (o : _) → s ≡ o → and_then (outcome_of bytes o) (with_value (placed bytes x)) ≡ read_pair left m (drop place bytes)
-    both_by o f =
-        ap (λ (p : Outcome groups.Numeral). and_then p (with_value (placed bytes x))) (ap (outcome_of bytes) (sym f) ∙ valued)
-        ∙ pair_by (Number x) e
-
-    pub no_pair_value : {w : ℕ} → s ≡ Refused w → refused w ≡ read_pair left m (drop place bytes)
-    no_pair_value {w} f = both_by (Refused w) f
-
-    pub a_pair : {y : Numeral} → s ≡ Number y →
-        accepted (record { gap = x.value; value = y.value; rest = drop y.next bytes }) ≡ read_pair left m (drop place bytes)
-    a_pair {y} f = both_by (Number y) f
-
--- ---- the answer of one entry
-
-module _ (left m : ℕ) (bytes : List ℕ) (place : ℕ) {r : _} (paired : pair_outcome bytes r ≡ read_pair left m (drop place bytes)) where
-  pub refused_as : {w : ℕ} → r ≡ answer.Refused w → read_pair left m (drop place bytes) ≡ refused w
-  refused_as e = sym paired ∙ ap (pair_outcome bytes) e
-
-  pub pair_as : {p : Pair} → r ≡ answer.Pair p → read_pair left m (drop place bytes) ≡ accepted (record { gap = p.gap; value = p.value; rest = drop p.next bytes })
-  pair_as e = sym paired ∙ ap (pair_outcome bytes) e
-
-  pub gap_left : {p : Pair} → r ≡ answer.Pair p → p.gap < left
-  gap_left e = (pair_read left m (drop place bytes) _ (pair_as e)).gap_below
-
--- ---- the word
+-- ---- the tests
 
 -- so many entries and the end behind them
 abbrev pub pairs_number : ℕ → ℕ → ℕ → List ℕ → ℕ
 pairs_number k left m bytes = number_of (and_then (read_pairs k left m bytes) to_end)
 
-module _ (m left : ℕ) (bytes : List ℕ) where
-  pub turn_stops : (more : ℕ) {w : ℕ} → 0 < more → read_pair left m bytes ≡ refused w → pairs_number more left m bytes ≡ w
-  turn_stops zero h e = absurd (omega arith)
-  turn_stops (suc k) h e = ap (λ (o : Outcome Entries). number_of (and_then o to_end)) (pairs_stop k left m bytes e)
+module _ (m left : ℕ) (bytes : List ℕ) (place : ℕ) {r : Result Pair Refusal} (paired : pair_outcome bytes r ≡ read_pair left m (drop place bytes)) where
+  pub turn_stops : (more : ℕ) → 0 < more → {e : Refusal} → r ≡ Err e → {A : Type 0} (s : Result A Refusal) → IsErrAnd s (λ x. x ≡ e) →
+      pairs_number more left m (drop place bytes) ≡ word_of s
+  turn_stops zero h was s f = absurd (omega arith)
+  turn_stops (suc k) h was s f =
+      ap (λ (o : Outcome Entries). number_of (and_then o to_end)) (pairs_stop k left m (drop place bytes) (sym paired ∙ ap (pair_outcome bytes) was))
+      ∙ sym (ap word_of (handed_on s f))
 
-  pub turn_goes_on : (more : ℕ) {p : def.Pair} → 0 < more → read_pair left m bytes ≡ accepted p →
-      pairs_number more left m bytes ≡ pairs_number (more - 1) (left - (p.gap + 1)) m p.rest
-  turn_goes_on zero h e = absurd (omega arith)
-  turn_goes_on (suc k) {p} h e =
-      ap (λ (o : Outcome Entries). number_of (and_then o to_end)) (pairs_go k left m bytes e)
-      ∙ number_in_front (λ x. zeros p.gap ++ (p.value ∷ x.entries)) (read_pairs k (left - (p.gap + 1)) m p.rest)
-      ∙ ap (λ (j : ℕ). pairs_number j (left - (p.gap + 1)) m p.rest) (omega arith)
+  module _ {p : Pair} (was : r ≡ Ok p) where
+    pair_as : read_pair left m (drop place bytes) ≡ accepted (pair_at bytes p)
+    pair_as = sym paired ∙ ap (pair_outcome bytes) was
+
+    pub gap_left : p.gap < left
+    gap_left = (pair_read left m (drop place bytes) _ pair_as).gap_below
+
+    pub turn_goes_on : (more : ℕ) → 0 < more → (less : ℕ) → less + 1 ≡ more →
+        pairs_number more left m (drop place bytes) ≡ pairs_number less (left - (p.gap + 1)) m (drop p.next bytes)
+    turn_goes_on zero h less e = absurd (omega arith)
+    turn_goes_on (suc k) h less e =
+        ap (λ (o : Outcome Entries). number_of (and_then o to_end)) (pairs_go k left m (drop place bytes) pair_as)
+        ∙ number_in_front (λ x. zeros p.gap ++ (p.value ∷ x.entries)) (read_pairs k (left - (p.gap + 1)) m (drop p.next bytes))
+        ∙ ap (λ (j : ℕ). pairs_number j (left - (p.gap + 1)) m (drop p.next bytes)) (omega arith)
 
 module _ (m left : ℕ) (bytes : List ℕ) (place more : ℕ) (none : more ≤ 0) where
   ended : pairs_number more left m (drop place bytes) ≡ def.tail_word (drop place bytes)
@@ -130,34 +65,15 @@ module _ (m left : ℕ) (bytes : List ℕ) (place more : ℕ) (none : more ≤ 0
   pub no_tail : length bytes ≤ place → pairs_number more left m (drop place bytes) ≡ 0
   no_tail h = ended ∙ at_end_lem bytes place h
 
--- ---- the count
-
-module _ (long m : ℕ) (bytes : List ℕ) (place : ℕ) {r : _} (reads : ReadsAt bytes place r) where
-  abbrev with_count : groups.Numeral → Outcome Entries
-  with_count count = read_pairs count.value long m count.rest
-
-  pub count_as : (o : _) → r ≡ o → read_contents sparse long m (drop place bytes) ≡ and_then (outcome_of bytes o) with_count
-  count_as o e = ap (λ (p : Outcome groups.Numeral). and_then p with_count) (sym (read_as reads o e))
-
-  pub no_count_word : {w : ℕ} → r ≡ Refused w → w ≡ number_of (and_then (read_contents sparse long m (drop place bytes)) to_end)
-  no_count_word {w} e = sym (ap (λ (o : Outcome Entries). number_of (and_then o to_end)) (count_as (Refused w) e))
-
-  pub count_word : {x : Numeral} → r ≡ Number x → {w : ℕ} → w ≡ pairs_number x.value long m (drop x.next bytes) →
-      w ≡ number_of (and_then (read_contents sparse long m (drop place bytes)) to_end)
-  count_word {x} e f = f ∙ sym (ap (λ (o : Outcome Entries). number_of (and_then o to_end)) (count_as (Number x) e))
-
 -- ---- filling
 
-pub all_cleared : (old : List ℕ) → cleared (length old) old ≡ zeros (length old)
-unfolding cleared
-all_cleared old = rw (drop_of_length-le old {i = length old} (omega arith), zeros-tabulate (length old)) (append-nil (zeros (length old)))
+replicated-zeros : (k : ℕ) → replicate k 0 ≡ zeros k
+unfolding zeros
+replicated-zeros zero = refl
+replicated-zeros (suc k) = ap (λ (l : List ℕ). 0 ∷ l) (replicated-zeros k)
 
-module _ (old : List ℕ) {table : List ℕ} (e : table ≡ cleared (length old) old) where
-  pub cleared_long : length table ≡ length old
-  cleared_long = ap length (e ∙ all_cleared old) ∙ length-zeros (length old)
-
-  pub cleared-zeros : table ≡ zeros (length table)
-  cleared-zeros = e ∙ all_cleared old ∙ ap zeros (sym cleared_long)
+pub filled_zeros : (k : ℕ) {table : List ℕ} → table ≡ replicate k 0 → table ≡ zeros (length table)
+filled_zeros k e = let f = e ∙ replicated-zeros k in f ∙ ap zeros (sym (ap length f ∙ length-zeros k))
 
 -- entries that are accepted: those that are left are so too, and stand behind those that are set
 pub record PairsLeft (bytes : List ℕ) (m : ℕ) (x : Entries) (done : List ℕ) (left place more : ℕ) : Type 0 where
@@ -204,7 +120,7 @@ one_set done gap left v h =
     ∙ append_assoc done (zeros gap) (v ∷ more)
     ∙ sym (append_assoc done (zeros gap ++ (v ∷ [])) more ∙ ap (λ (l : List ℕ). done ++ l) (append_assoc (zeros gap) (v ∷ []) more))
 
-module _ (count : ℕ) (bytes : List ℕ) (at long : ℕ) (table : List ℕ) (place next more : ℕ) (filling : Filling count bytes at long table place next more) where
+module _ {count : ℕ} {bytes : List ℕ} {at long : ℕ} {table : List ℕ} {place next more : ℕ} (filling : Filling count bytes at long table place next more) where
   -- the entries that are left begin with a gap and a value
   module _ (some : 0 < more) (m : ℕ) (x : Entries) (e : read_pairs count long m (drop at bytes) ≡ accepted x) where
     first_left : FirstPair (more - 1) (long - next) m (drop place bytes) (filling.left m x e).rest

@@ -1,17 +1,18 @@
 // The table of a sparse file, behind m: how many entries are not 0, and for each of these in rising code the codes that are
 // skipped before it and its value. Everything is tested by one function and filled in by another, so that a refusal leaves a
 // lent table as it came.
-#![tactic(auto)]
+#![tactic(auto, unfolding(definitions::specs::Files::read_gap, definitions::specs::Files::read_value, definitions::specs::Files::read_pair))]
 
 ghost use Rattle.std.specs.Prelude.{◌≡◌, ℕ, length, drop};
 ghost use Rattle.definitions.specs.Outcomes.{number_of, and_then};
 ghost use Rattle.definitions.specs.Files.{sparse, zeros, read_gap, read_value, read_pair, read_pairs, read_contents};
+ghost use Rattle.refusals.specs.Words.{word_of};
 ghost use Rattle.number_groups.specs.NumberAnswers.{outcome_of, Accepts};
 ghost use Rattle.table_header.specs.Ends.{to_end};
 ghost use Rattle.sparse_file.specs.Pairs.{pair_outcome, Fills};
 
-use number_groups::{NumberAnswer, number_again, read_number};
-use pads::clear;
+use number_groups::{Numeral, number_again, read_number};
+use refusals::Refusal;
 
 // An entry that is not 0, with the codes skipped before it, and the place behind it.
 #[derive(Clone, Copy)]
@@ -21,94 +22,67 @@ pub struct Pair {
     pub next: usize,
 }
 
-#[derive(Clone, Copy)]
-pub enum PairAnswer {
-    Pair(Pair),
-    Refused(u32),
-}
-
 // The gap that stands at a place, with so many codes left: 8, then 15.
-fn read_gap(left: usize, bytes: &[u8], at: usize) -> NumberAnswer
+fn read_gap(left: usize, bytes: &[u8], at: usize) -> Result<Numeral, Refusal>
     ensures { outcome_of bytes.now result ≡ read_gap left (drop at bytes.now) }
 {
-    match read_number(bytes, at) {
-        NumberAnswer::Number(gap) => {
-            if (gap.value as usize) < left {
-                NumberAnswer::Number(gap)
-            } else {
-                NumberAnswer::Refused(15)
-            }
-        }
-        NumberAnswer::Refused(word) => NumberAnswer::Refused(word),
+    let gap = read_number(bytes, at)?;
+    if left <= gap.value as usize {
+        return Err(Refusal::Gap);
     }
+    Ok(gap)
 }
 
 // The value that stands at a place: 8, then 16, then 5.
-fn read_value(m: u32, bytes: &[u8], at: usize) -> NumberAnswer
+fn read_value(m: u32, bytes: &[u8], at: usize) -> Result<Numeral, Refusal>
     ensures { outcome_of bytes.now result ≡ read_value m (drop at bytes.now) }
 {
-    match read_number(bytes, at) {
-        NumberAnswer::Number(value) => {
-            if value.value == 0 {
-                return NumberAnswer::Refused(16);
-            }
-            if value.value < m {
-                NumberAnswer::Number(value)
-            } else {
-                NumberAnswer::Refused(5)
-            }
-        }
-        NumberAnswer::Refused(word) => NumberAnswer::Refused(word),
+    let value = read_number(bytes, at)?;
+    if value.value == 0 {
+        return Err(Refusal::Zero);
     }
+    if m <= value.value {
+        return Err(Refusal::Entry);
+    }
+    Ok(value)
 }
 
 // The entry that stands at a place.
-fn read_pair(left: usize, m: u32, bytes: &[u8], at: usize) -> PairAnswer
+fn read_pair(left: usize, m: u32, bytes: &[u8], at: usize) -> Result<Pair, Refusal>
     ensures { pair_outcome bytes.now result ≡ read_pair left m (drop at bytes.now) }
 {
-    match read_gap(left, bytes, at) {
-        NumberAnswer::Number(gap) => match read_value(m, bytes, gap.next) {
-            NumberAnswer::Number(value) => PairAnswer::Pair(Pair {
-                gap: gap.value,
-                value: value.value,
-                next: value.next,
-            }),
-            NumberAnswer::Refused(word) => PairAnswer::Refused(word),
-        },
-        NumberAnswer::Refused(word) => PairAnswer::Refused(word),
-    }
+    let gap = read_gap(left, bytes, at)?;
+    let value = read_value(m, bytes, gap.next)?;
+    Ok(Pair {
+        gap: gap.value,
+        value: value.value,
+        next: value.next,
+    })
 }
 
-// The word of so many entries from a place on, and of the end behind them (9).
-fn pairs_word(m: u32, count: u32, long: usize, bytes: &[u8], at: usize) -> u32
-    ensures { result ≡ number_of (and_then (read_pairs count long m (drop at bytes.now)) to_end) }
+// Tests so many entries from a place on, and the end behind them (9).
+fn test_pairs(m: u32, count: u32, long: usize, bytes: &[u8], at: usize) -> Result<(), Refusal>
+    ensures { word_of result ≡ number_of (and_then (read_pairs count long m (drop at bytes.now)) to_end) }
 {
     let mut place = at;
     let mut left = long;
-    let mut more = count;
-    while 0 < more {
-        match read_pair(left, m, bytes, place) {
-            PairAnswer::Pair(pair) => {
-                left -= (pair.gap as usize) + 1;
-                place = pair.next;
-            }
-            PairAnswer::Refused(word) => {
-                return word;
-            }
-        }
-        more -= 1;
+    for _ in 0..count {
+        let pair = read_pair(left, m, bytes, place)?;
+        left -= pair.gap as usize + 1;
+        place = pair.next;
     }
-    if place < bytes.len() { 9 } else { 0 }
+    if place < bytes.len() {
+        return Err(Refusal::Tail);
+    }
+    Ok(())
 }
 
-// The word of a table of so many entries from a place on, and of the end behind it.
-pub fn sparse_word(m: u32, long: usize, bytes: &[u8], at: usize) -> u32
-    ensures { result ≡ number_of (and_then (read_contents sparse long m (drop at bytes.now)) to_end) }
+// Tests a table of so many entries from a place on, and the end behind it.
+pub fn test_sparse(m: u32, long: usize, bytes: &[u8], at: usize) -> Result<(), Refusal>
+    ensures { word_of result ≡ number_of (and_then (read_contents sparse long m (drop at bytes.now)) to_end) }
 {
-    match read_number(bytes, at) {
-        NumberAnswer::Number(count) => pairs_word(m, count.value, long, bytes, count.next),
-        NumberAnswer::Refused(word) => word,
-    }
+    let count = read_number(bytes, at)?;
+    test_pairs(m, count.value, long, bytes, count.next)
 }
 
 // Sets the entries that are not 0 in a table of zeros. They were tested before.
@@ -119,15 +93,13 @@ fn fill_pairs(count: u32, bytes: &[u8], at: usize, table: &mut [u32])
 {
     let mut place = at;
     let mut next = 0;
-    let mut more = count;
-    while 0 < more {
+    for _ in 0..count {
         let gap = number_again(bytes, place);
         let value = number_again(bytes, gap.next);
-        let code = next + (gap.value as usize);
+        let code = next + gap.value as usize;
         table[code] = value.value;
         next = code + 1;
         place = value.next;
-        more -= 1;
     }
 }
 
@@ -137,6 +109,6 @@ pub fn fill_sparse(bytes: &[u8], at: usize, table: &mut [u32])
     ensures { (m : ℕ) → Fills (read_contents sparse (length table.old) m (drop at bytes.now)) table.new }
 {
     let count = number_again(bytes, at);
-    clear(table.len(), table);
+    table.fill(0);
     fill_pairs(count.value, bytes, count.next, table);
 }

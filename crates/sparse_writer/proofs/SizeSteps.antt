@@ -1,6 +1,7 @@
 -- The steps of the sparse writer: measuring, writing gaps and values, the whole file, the call.
-use mathlib.Core.Path.{◌≡◌, refl, sym, ◌∙◌, ap, subst}
+use mathlib.Core.Path.{◌≡◌, refl, sym, ◌∙◌, ap}
 use mathlib.Core.Bool.{true, false}
+use Rattle.std.specs.Prelude.{Result, Ok, Err}
 use mathlib.Core.List.{List, [], ◌∷◌, ◌++◌, flat_map}
 use Prim.Native.Nat.{ℕ, ◌+◌, ◌-◌, ◌*◌, ◌^◌, ◌<◌, ◌≤◌}
 use native.Mathlib.Omega.{arith}
@@ -17,17 +18,16 @@ use Rattle.definitions.specs.Files.{sparse, nonzero_count, pairs_from, file_of, 
 use Rattle.checks.specs.Words.{all_zero, one_more_word, or_else_go, or_else_stop}
 use Rattle.checks.specs.Accepted.{InRange, in_range, right_length, table_number}
 use Rattle.checks.specs.Answers.{IsChecked, accepted, refused, not_accepted}
-use Rattle.checks.specs.declared.Checked.{Checked}
-use Rattle.checks.specs.declared.Checked.TheVariants as checked
+use Rattle.refusals.specs.Words.{word}
+use Rattle.refusals.specs.declared.Refusal.{Refusal}
+use Rattle.residues.specs.declared.Modulus.{Modulus}
 use Rattle.number_groups.specs.Stores.{sets_append}
-use Rattle.table_writer.specs.Writing.{refused_with, short_word, WrittenBy}
+use Rattle.table_writer.specs.Writing.{short_word, WrittenBy}
 use Rattle.table_writer.specs.WritingLaws.{accepted_write, refused_write}
-use Rattle.table_writer.specs.declared.Written.{Written}
 use Rattle.nonzero_entries.specs.Entries.{NextEntry}
-use Rattle.sparse_writer.specs.Sizes.{SizesAre, EntryRefused, Measures}
+use Rattle.sparse_writer.specs.Sizes.{SizesAre}
 use Rattle.sparse_writer.specs.SizeLaws.{pairs_next, count_next, below_next, pairs_last, count-last, below_last}
-use Rattle.sparse_writer.specs.declared.SizesAnswer.{SizesAnswer}
-use Rattle.sparse_writer.specs.declared.SizesAnswer.TheVariants as answer
+use Rattle.sparse_writer.specs.declared.Sizes.{Sizes}
 
 -- ---- the bytes of gaps and values from a place on
 
@@ -74,10 +74,10 @@ module _ (m : ℕ) (a : List ℕ) where
 
   module _ (pos : 0 < m) {entries bytes from code : ℕ} (c : Measuring m a entries bytes from code) where
     module _ (h : code < length a) where
-      pub large_entry : m ≤ at a code → EntryRefused m a 5
+      pub large_entry : m ≤ at a code → 5 ≡ entry_word m a
       large_entry l =
           let none : all_below m a ≡ false = sym c.below_left ∙ below_next a from code c.next h m pos ∙ rw (le-ltb (at a code) m l) in
-          record { word_is = rw none; not_zero = λ z. omega arith }
+          rw none
 
       pub one_measured : {j k further : ℕ} → at a code < m → (j ≡ length (groups (code - from))) × (j ≤ 5) → (k ≡ length (groups (at a code))) × (k ≤ 5) →
           NextEntry a (code + 1) further → Measuring m a (entries + 1) (bytes + (j + k)) (code + 1) further
@@ -185,17 +185,16 @@ module _ (n m : ℕ) (a : List ℕ) where
 abbrev pub shape_number : ℕ → ℕ → ℕ → ℕ
 shape_number n m long = first_word (panel_word n ∷ modulus_word m ∷ table_word n long ∷ [])
 
-module _ (n m : ℕ) (a old : List ℕ) {r : Checked} (tests : IsChecked m (shape_number n m (length a)) r) where
+module _ (n m : ℕ) (a old : List ℕ) {r : Result Modulus Refusal} (tests : IsChecked m (shape_number n m (length a)) r) where
   by_shape : table_number n m a ≡ or_else (shape_number n m (length a)) (entry_word m a)
   by_shape = one_more_word (panel_word n ∷ modulus_word m ∷ table_word n (length a) ∷ []) (entry_word m a)
 
-  pub no_shape : {word : ℕ} → r ≡ checked.Refused word → WrittenBy sparse n m a (writer_number sparse n m a (length old)) old (refused_with word) old
+  pub no_shape : {refusal : Refusal} → r ≡ Err refusal → WrittenBy sparse n m a (writer_number sparse n m a (length old)) old (Err refusal) old
   no_shape e =
       refused_write sparse n m a old
       (refused tests e ∙ sym (by_shape ∙ or_else_stop _ (entry_word m a) (not_accepted tests e)))
-      (tests.word _ e)
 
-  module _ {modulus : _} (e : r ≡ checked.Accepted modulus) where
+  module _ {modulus : _} (e : r ≡ Ok modulus) where
     facts : InRange n m × (length a ≡ 2 ^ n)
     facts =
         let z = all_zero (panel_word n ∷ modulus_word m ∷ table_word n (length a) ∷ []) (accepted tests e) in
@@ -213,15 +212,9 @@ module _ (n m : ℕ) (a old : List ℕ) {r : Checked} (tests : IsChecked m (shap
     entries_next : table_number n m a ≡ entry_word m a
     entries_next = by_shape ∙ or_else_go _ (entry_word m a) (accepted tests e)
 
-    module _ {s : SizesAnswer} (measured : Measures m a s) where
-      pub no_entries : {word : ℕ} → s ≡ answer.Refused word → WrittenBy sparse n m a (writer_number sparse n m a (length old)) old (refused_with word) old
-      no_entries f =
-          let w = subst (Measures m a) f measured in
-          refused_write sparse n m a old (w.word_is ∙ sym entries_next) w.not_zero
+    pub no_entries : {refusal : Refusal} → word refusal ≡ entry_word m a → WrittenBy sparse n m a (writer_number sparse n m a (length old)) old (Err refusal) old
+    no_entries f = refused_write sparse n m a old (f ∙ sym entries_next)
 
-      pub sizes_are : {sizes : _} → s ≡ answer.Sizes sizes → SizesAre m a sizes
-      sizes_are f = subst (Measures m a) f measured
-
-      pub as_written : {sizes : _} → s ≡ answer.Sizes sizes → {w : Written} {buffer : List ℕ} →
-          WrittenBy sparse n m a (short_word sparse n m a (length old)) old w buffer → WrittenBy sparse n m a (writer_number sparse n m a (length old)) old w buffer
-      as_written f h = accepted_write sparse n m a old (entries_next ∙ (sizes_are f).tested) h
+    pub as_written : {sizes : Sizes} → SizesAre m a sizes → {w : Result ℕ Refusal} {buffer : List ℕ} →
+        WrittenBy sparse n m a (short_word sparse n m a (length old)) old w buffer → WrittenBy sparse n m a (writer_number sparse n m a (length old)) old w buffer
+    as_written f h = accepted_write sparse n m a old (entries_next ∙ f.tested) h

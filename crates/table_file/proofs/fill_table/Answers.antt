@@ -1,18 +1,14 @@
-use Prim.Native.Nat.{◌-◌}
 use Rattle.table_file.proofs.ReaderSteps.{none_filled, entry_stands, one-filled, all_filled}
 use Rattle.table_file.proofs.fill_table.Goals as goal
 
-pub loop-i-init : goal.loop-i-init
-loop-i-init c = none_filled _ _ _
+pub loop-entry-init : goal.loop-entry-init
+loop-entry-init c = none_filled _ _ _
 
-pub number_again-entry-requires : goal.number_again-entry-requires
-number_again-entry-requires c = entry_stands _ _ _ _ _ _ c.loop-i.invariant c.loop-i-test.true c.requires
+pub number_again-number-requires : goal.number_again-number-requires
+number_again-number-requires c = entry_stands c.loop-entry.invariant c.loop-entry-test.true c.requires
 
-pub loop-i-preserved : goal.loop-i-preserved
-loop-i-preserved c = one-filled _ _ _ _ _ _ c.loop-i.invariant c.loop-i-test.true c.number_again-entry.ensures
-
-pub shape_of-table : goal.shape_of-table
-shape_of-table c = c.loop-i.invariant.as_long
+pub loop-entry-preserved : goal.loop-entry-preserved
+loop-entry-preserved c = one-filled c.loop-entry.invariant c.loop-entry-test.true c.number_again-number.ensures
 
 pub returns : goal.returns
-returns c = all_filled _ _ _ _ _ _ c.loop-i.invariant c.loop-i-test.false
+returns c = all_filled c.loop-entry.invariant c.loop-entry-test.false
