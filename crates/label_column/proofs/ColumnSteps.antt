@@ -8,10 +8,9 @@ use native.Mathlib.Numerals.{add-one}
 use native.Mathlib.Nat.{div-eq_of_lt, mul_assoc, mul_comm, pow-suc}
 use native.Mathlib.Omega.{arith}
 use lib.Bits.{bit_and}
-use lib.Count.{ones}
 use lib.Dec.{eqb}
 use lib.ListN.{length, set, length-append, length-replicate, replicate-append-replicate}
-use lib.Pow.{pow_mono, pow-add, shl-shr, shr_le, shr-shr, split}
+use lib.Pow.{pow_mono, pow-add, shl-shr, shr_le, shr-shr}
 use borrow.Author.Tests.{eq-eqb, ne_eqb}
 use Rattle.definitions.specs.Limits.{most_controls, longest_label}
 use Rattle.definitions.specs.Sums.{tabulate, keep, at}
@@ -24,13 +23,13 @@ use Rattle.text_pieces.specs.Text.{Writes}
 use Rattle.text_pieces.specs.TextLaws.{writes_same, writes_one, writes_inside, writes_again, writes_there, writes_length}
 use Rattle.page_theory.specs.Codes.{keep_snoc, keep_few}
 use Rattle.page_theory.specs.Widths.{length-filled}
-use Rattle.label_theory.specs.Labels.{GoodLabel, GoodLabels}
+use Rattle.label_theory.specs.Labels.{GoodLabels}
 use Rattle.label_theory.specs.Columns.{AllBelow, kept_below, labelled_few}
-use Rattle.label_sheet.specs.LabelArrays.{name_of, bytes_of, labels_in}
-use Rattle.label_sheet.specs.ArrayLaws.{name_bytes, bytes_length}
+use Rattle.label_sheet.specs.declared.labels.Label.{Label}
+use Rattle.label_sheet.specs.LabelArrays.{HasLabel, Ready, labels_in}
 use Rattle.page_text.specs.PageParts.{Room}
 use Rattle.label_column.proofs.ControlSteps.{without_lowest, size-without}
-use Rattle.label_column.specs.Columns.{Lowest, joint, Ready}
+use Rattle.label_column.specs.Columns.{Lowest, joint}
 
 -- ---- the labels of the controls below i
 
@@ -144,9 +143,9 @@ module _ (w : ℕ) (text l : List ℕ) (k : ℕ) {piece : List ℕ} (is : piece 
       writes_same (longer m all)
       (writes_inside text (blanks (length piece)) piece (blanks m) e (length-replicate (length piece) 32) (writes_same (in_two m all) v) p)
 
-name_filled : (l : List ℕ) → GoodLabel l → bytes_of longest_label (name_of l) ≡ l ++ blanks (longest_label - length l)
+name_filled : (l : List ℕ) → filled longest_label l ≡ l ++ blanks (longest_label - length l)
 unfolding filled
-name_filled l good = name_bytes l good
+name_filled l = refl
 
 -- ---- the column
 
@@ -172,15 +171,8 @@ no_label ls S at {mid = mid} e h w =
     (filled_on 143 [] (45 ∷ []) 0 refl (omega arith) (let here : at ≡ at + 0 = omega arith in here)
     (writes_same (sym nothing_yet) w) (writes_one mid at 45 h))
 
-size_none : size 0 ≡ 0
-unfolding ones
-size_none = refl
-
-pub no_size : (S : ℕ) → S ≡ 0 → 0 ≡ size S
-no_size S e = sym (ap size e ∙ size_none)
-
 -- the labels of the controls below one stand in the column, and blanks behind them; the controls from that one on are left
-pub record ColumnSoFar (S : ℕ) (array : List ℕ) (first : ℕ) (old out : List ℕ) (rest place count : ℕ) : Type 0 where
+pub record ColumnSoFar (S : ℕ) (array : List Label) (first : ℕ) (old out : List ℕ) (rest place count : ℕ) : Type 0 where
   pub control : ℕ
   pub most : control ≤ most_controls
   pub rest_is : rest ≡ S / 2 ^ control * 2 ^ control
@@ -189,7 +181,7 @@ pub record ColumnSoFar (S : ℕ) (array : List ℕ) (first : ℕ) (old out : Lis
   pub writes : Writes old first (filled 143 (linked rest (parts_to (labels_in array) S control))) (first + 143) out
 
 -- the blanks are there already
-pub column_start : (S : ℕ) (array : List ℕ) (first : ℕ) {old blank : List ℕ} → Writes old first (blanks 143) (first + 143) blank →
+pub column_start : (S : ℕ) (array : List Label) (first : ℕ) {old blank : List ℕ} → Writes old first (blanks 143) (first + 143) blank →
     ColumnSoFar S array first blank blank S first 0
 column_start S array first w =
     let none : linked S (parts_to (labels_in array) S 0) ≡ [] = ap (linked S) (parts_none (labels_in array) S) ∙ linked_none S in
@@ -202,16 +194,13 @@ column_start S array first w =
       writes = writes_same (sym (ap (filled 143) none ∙ nothing_yet)) (writes_there w);
     }
 
-module _ {S : ℕ} {array : List ℕ} {first : ℕ} {old out : List ℕ} {rest place count : ℕ}
+module _ {S : ℕ} {array : List Label} {first : ℕ} {old out : List ℕ} {rest place count : ℕ}
     (s : ColumnSoFar S array first old out rest place count) (ready : Ready array) (small : S < 2 ^ most_controls) where
   abbrev ls : List (List ℕ)
   ls = labels_in array
 
   abbrev done : List (List ℕ)
   done = parts_to ls S s.control
-
-  pub rest_small : rest < 2 ^ most_controls
-  rest_small = omega (arith, s.rest_is, split S s.control)
 
   -- the controls that are left are those of S from the next one on
   high : (j : ℕ) → s.control ≤ j → rest / 2 ^ j ≡ S / 2 ^ j
@@ -300,48 +289,43 @@ module _ {S : ℕ} {array : List ℕ} {first : ℕ} {old out : List ℕ} {rest p
             let more = below_most (i + 1) (λ (z : S / 2 ^ (i + 1) ≡ 0). omega (arith, ap (λ (x : ℕ). x * 2 ^ (i + 1)) z)) in
             omega (arith, before_few, more, label_short, joint_most (suc k))
 
-    module _ (room : first + 143 ≤ length old) where
-      pub name_room : place + longest_label ≤ length out
-      name_room = omega (arith, place_at, before_few, next_below, writes_length s.writes)
+    module _ (room : first + 143 ≤ length old) {label : Label} (kept : HasLabel label (label_of ls i)) where
+      eight : length label.name ≡ longest_label
+      eight = ap length kept.name_is ∙ length-filled longest_label (label_of ls i) label_short
 
-      module _ {long : ℕ} (k : long ≡ at array (most_controls + i)) where
-        long_is : long ≡ length (label_of ls i)
-        long_is = k ∙ ready.held.lengths i next_below
+      pub name_room : place + length label.name ≤ length out
+      name_room = omega (arith, place_at, before_few, next_below, writes_length s.writes, eight)
 
-        pub label_room : place + long ≤ first + 143
-        label_room = omega (arith, place_at, joint_few, long_is)
+      module _ {end : ℕ} {mid : List ℕ} (w : Writes out place label.name end mid) where
+        pub joint_fits : place + label.length + length (joint (bit_and rest (rest - 1))) ≤ length mid
+        joint_fits = omega (arith, place_at, joint_few, kept.length_is, writes_length w, writes_length s.writes)
 
-        module _ {name end : ℕ} {mid : List ℕ} (n : name ≡ at array i) (w : Writes out place (bytes_of longest_label name) end mid) where
-          pub joint_fits : place + long + length (joint (bit_and rest (rest - 1))) ≤ length mid
-          joint_fits = omega (arith, place_at, joint_few, long_is, writes_length w, writes_length s.writes)
+        bytes : label.name ≡ label_of ls i ++ blanks (longest_label - length (label_of ls i))
+        bytes = kept.name_is ∙ name_filled (label_of ls i)
 
-          bytes : bytes_of longest_label name ≡ label_of ls i ++ blanks (longest_label - length (label_of ls i))
-          bytes = ap (bytes_of longest_label) (n ∙ ready.held.names i next_below) ∙ name_filled (label_of ls i) (ready.good.each i next_below)
+        with_name : Writes old first (filled 143 (marked done ++ label_of ls i)) (first + 143) mid
+        with_name =
+            filled_on 143 (marked done) (label_of ls i) (longest_label - length (label_of ls i)) bytes (omega (arith, before_few, next_below, eight)) place_at
+            (writes_same (ap (filled 143) text_is) s.writes) w
 
-          with_name : Writes old first (filled 143 (marked done ++ label_of ls i)) (first + 143) mid
-          with_name =
-              let eight = bytes_length longest_label name in
-              filled_on 143 (marked done) (label_of ls i) (longest_label - length (label_of ls i)) bytes (omega (arith, before_few, next_below)) place_at
-              (writes_same (ap (filled 143) text_is) s.writes) w
-
-          pub column_more : {next : ℕ} {last : List ℕ} → Writes mid (place + long) (joint (bit_and rest (rest - 1))) next last →
-              ColumnSoFar S array first old last (bit_and rest (rest - 1)) next (count + 1)
-          column_more j =
-              let text : linked (bit_and rest (rest - 1)) (parts_to ls S (i + 1)) ≡ (marked done ++ label_of ls i) ++ joint (bit_and rest (rest - 1)) =
-              ap (linked (bit_and rest (rest - 1))) more_parts ∙ linked_more (bit_and rest (rest - 1)) done (label_of ls i) in
-              let both = length-append (marked done) (label_of ls i) in
-              record {
-                control = i + 1;
-                most = omega (arith, next_below);
-                rest_is = rest_next;
-                counted = omega (arith, s.counted, size-without i rest l, ap size (without_lowest i rest some l));
-                place_is =
-                    omega (arith, place_at, j.next_is, long_is, ap length text, length-append (marked done ++ label_of ls i) (joint (bit_and rest (rest - 1))));
-                writes =
-                    writes_same (sym (ap (filled 143) text))
-                    (filled_on 143 (marked done ++ label_of ls i) (joint (bit_and rest (rest - 1))) 0 (sym (append-nil (joint (bit_and rest (rest - 1)))))
-                    (omega (arith, joint_few)) (omega (arith, place_at, long_is)) with_name j);
-              }
+        pub column_more : {next : ℕ} {last : List ℕ} → Writes mid (place + label.length) (joint (bit_and rest (rest - 1))) next last →
+            ColumnSoFar S array first old last (bit_and rest (rest - 1)) next (count + 1)
+        column_more j =
+            let text : linked (bit_and rest (rest - 1)) (parts_to ls S (i + 1)) ≡ (marked done ++ label_of ls i) ++ joint (bit_and rest (rest - 1)) =
+            ap (linked (bit_and rest (rest - 1))) more_parts ∙ linked_more (bit_and rest (rest - 1)) done (label_of ls i) in
+            let both = length-append (marked done) (label_of ls i) in
+            record {
+              control = i + 1;
+              most = omega (arith, next_below);
+              rest_is = rest_next;
+              counted = omega (arith, s.counted, size-without i rest l, ap size (without_lowest i rest some l));
+              place_is =
+                  omega (arith, place_at, j.next_is, kept.length_is, ap length text, length-append (marked done ++ label_of ls i) (joint (bit_and rest (rest - 1))));
+              writes =
+                  writes_same (sym (ap (filled 143) text))
+                  (filled_on 143 (marked done ++ label_of ls i) (joint (bit_and rest (rest - 1))) 0 (sym (append-nil (joint (bit_and rest (rest - 1)))))
+                  (omega (arith, joint_few)) (omega (arith, place_at, kept.length_is)) with_name j);
+            }
 
   module _ (none : rest ≤ 0) where
     bit_none : (j : ℕ) → has S (s.control + j) ≡ false
@@ -367,8 +351,3 @@ module _ {S : ℕ} {array : List ℕ} {first : ℕ} {old out : List ℕ} {rest p
         let long : length (blanks 143) ≡ length (filled 143 (labelled ls S)) =
         length-replicate {A = ℕ} 143 32 ∙ sym (length-filled 143 (labelled ls S) (labelled_few ls ready.good S)) in
         writes_again long w (all_labels d)
-
-    pub column_size : count ≡ size S
-    column_size =
-        let e : rest ≡ 0 = omega arith in
-        omega (arith, s.counted, ap size e, size_none)

@@ -1,8 +1,8 @@
 -- What writing the column of a set needs.
 use Rattle.std.specs.Prelude.{◌≡◌, cond, List, [], ◌∷◌, ℕ, ◌/◌, ◌%◌, ◌^◌, ◌<◌, eqb}
 use Rattle.definitions.specs.Pages.{Layout, label_layout}
-use Rattle.label_theory.specs.Labels.{GoodLabels}
-use Rattle.label_sheet.specs.LabelArrays.{labels_in, Held}
+use Rattle.label_sheet.specs.LabelArrays.{labels_in}
+use Rattle.label_sheet.specs.declared.labels.Labels.{Labels}
 
 -- the lowest control of a set
 pub record Lowest (S i : ℕ) : Type 0 where
@@ -13,11 +13,6 @@ pub record Lowest (S i : ℕ) : Type 0 where
 abbrev pub joint : ℕ → List ℕ
 joint rest = cond (eqb rest 0) [] (43 ∷ [])
 
--- an array of labels, no two of which are the same
-pub record Ready (array : List ℕ) : Type 0 where
-  pub held : Held array
-  pub good : GoodLabels (labels_in array)
-
--- how pages are laid out with its labels
-abbrev pub layout_of : List ℕ → Layout
-layout_of array = label_layout (labels_in array)
+-- how pages are laid out with some labels
+abbrev pub layout_of : Labels → Layout
+layout_of labels = label_layout (labels_in labels.labels)

@@ -1,238 +1,285 @@
--- The steps of testing a sheet: bytes, a label, all labels, the end.
-use mathlib.Core.Path.{◌≡◌, refl, sym, ◌∙◌, ap}
-use mathlib.Core.Bool.{true, false}
-use mathlib.Core.List.{List, [], ◌∷◌}
-use Prim.Native.Nat.{ℕ, zero, suc, ◌+◌, ◌-◌, ◌<◌, ◌≤◌}
-use native.Mathlib.Numerals.{add-one}
+-- The steps of reading a sheet: bytes, a label, all labels, the end.
+use mathlib.Core.Path.{◌≡◌, refl, sym, ◌∙◌, ap, ap₂}
+use mathlib.Core.Bool.{Bool, true, false, not, ◌&&◌, ◌||◌, or_assoc}
+use mathlib.Core.List.{List, [], ◌∷◌, ◌++◌, append_assoc, append-nil}
+use Rattle.std.specs.Prelude.{Result, Ok, Err}
+use Rattle.std.specs.Char.{is_ascii_alphanumeric}
+use Rattle.std.specs.Int.{is_in_range}
+use Rattle.std.proofs.lemmas.Bool.Decides.{nat_tests}
+use Rattle.std.proofs.lemmas.List.{set_at, get_or_at}
+use Rattle.std.proofs.lemmas.Grind.{get_or-set_at}
+use lib.Dec.{is_le, ltb, eqb}
+use Prim.Native.Nat.{ℕ, zero, suc, compare, ◌+◌, ◌-◌, ◌<◌, ◌≤◌}
 use native.Mathlib.Omega.{arith}
-use lib.ListN.{length, drop, get_or, length-drop, drop_of_length-le}
-use lib.Seq.{drop-cons}
+use native.Mathlib.Decide.{ℕ_discrete}
+use lib.ListN.{length, drop, set, get_or, length-set, length-append, length-drop, get_or-append}
+use lib.Seq.{drop-cons, drop-drop, get_or-set_other}
 use borrow.Author.Tests.{lt-ltb, le-ltb, eq-eqb, ne_eqb}
-use Rattle.definitions.specs.Limits.{most_controls}
-use Rattle.definitions.specs.Outcomes.{Outcome, accepted, refused, and_then, unless, number_of}
-use Rattle.definitions.specs.Groups.{Numeral}
-use Rattle.definitions.specs.Files.{tail_word}
+use Rattle.definitions.specs.Limits.{most_controls, longest_label}
+use Rattle.definitions.specs.Outcomes.{Outcome, accepted, refused, and_then, unless}
+use Rattle.definitions.specs.Groups as def
+use Rattle.definitions.specs.Pages.{blanks, filled}
 use Rattle.definitions.specs.Sheets.{between, alphanumeric, label_length_word, label_byte_word, Label, byte_in_front, read_bytes, read_label}
-use Rattle.definitions.specs.Sheets.{Labels, label_in_front, read_labels, equal_word, sheet_end, read_sheet, sheet_number}
+use Rattle.definitions.specs.Sheets.{Labels, label_in_front, read_labels, label_of}
 use Rattle.theory.specs.Tests.{zero_is_not_one}
-use Rattle.label_theory.proofs.SheetLaws.{worded_labels}
-use Rattle.number_groups.specs.NumberAnswers.{outcome_of, ReadsAt, read_as}
-use Rattle.number_groups.specs.declared.NumberAnswer.TheVariants as number
-use Rattle.number_groups.specs.declared.Numeral as read
-use Rattle.label_sheet.specs.SheetAnswers.{to_rest, place_outcome, to_tail}
-use Rattle.label_sheet.specs.declared.PlaceAnswer.{PlaceAnswer}
-use Rattle.label_sheet.specs.declared.PlaceAnswer.TheVariants.{Next, Refused}
+use Rattle.refusals.specs.Words.{word}
+use Rattle.refusals.specs.declared.Refusal.{Refusal}
+use Rattle.refusals.specs.declared.Refusal.TheVariants as refusal
+use Rattle.definitions.specs.Refusals.{word_if}
+use Rattle.number_groups.specs.NumberAnswers.{outcome, ReadsAt, placed}
+use Rattle.number_groups.specs.declared.Numeral as number
+use Rattle.label_theory.proofs.SheetLaws as theory
+use Rattle.label_sheet.specs.declared.LabelAt.{LabelAt}
+use Rattle.label_sheet.specs.declared.labels.Label as code
+use Rattle.label_sheet.specs.LabelArrays.{HasLabel}
+use Rattle.label_sheet.specs.ArrayLaws.{these, held}
+use Rattle.label_sheet.specs.SheetAnswers.{label_byte, ByteRead, LabelIs, LabelsAre, to_tail}
 
 -- ---- letters and digits
 
-module _ (b : ℕ) where
-  pub is_digit : between 48 57 b ≡ true → 0 ≡ label_byte_word b
-  unfolding alphanumeric
-  is_digit d = simp d
+same_order : (a b : ℕ) → is_le (compare a b) ≡ not (ltb b a)
+same_order a b = grind (arith, nat_tests)
 
-  module _ (no_digit : between 48 57 b ≡ false) where
-    pub is_capital : between 65 90 b ≡ true → 0 ≡ label_byte_word b
-    unfolding alphanumeric
-    is_capital c = simp (no_digit, c)
+same_range : (low high b : ℕ) → is_in_range low high b ≡ between low high b
+same_range low high b = ap₂ ◌&&◌ (same_order low b) (same_order b high)
 
-    module _ (no-capital : between 65 90 b ≡ false) where
-      pub is_small : between 97 122 b ≡ true → 0 ≡ label_byte_word b
-      unfolding alphanumeric
-      is_small s = simp (no_digit, no-capital, s)
+same_ranges : (b : ℕ) → is_ascii_alphanumeric b ≡ alphanumeric b
+unfolding alphanumeric
+same_ranges b =
+    ap₂ ◌||◌ (ap₂ ◌||◌ (same_range 48 57 b) (same_range 65 90 b)) (same_range 97 122 b)
+    ∙ or_assoc (between 48 57 b) (between 65 90 b) (between 97 122 b)
 
-      pub is_other : between 97 122 b ≡ false → 17 ≡ label_byte_word b
-      unfolding alphanumeric
-      is_other s = simp (no_digit, no-capital, s)
+-- the byte that stands at a place
+module _ (sheet : List ℕ) (at : ℕ) (inside : at < length sheet) {b : ℕ} (byte : b ≡ get_or sheet at 0) where
+  byte_there : label_byte (drop at sheet) ≡ unless (label_byte_word b) (accepted b)
+  byte_there =
+      ap label_byte (drop-cons sheet at 0 inside) ∙ ap (λ (v : ℕ). unless (label_byte_word v) (accepted v)) (sym byte)
 
--- ---- tests in front of an outcome
+  pub letter_read : is_ascii_alphanumeric b ≡ true → ByteRead sheet at (Ok b)
+  letter_read e = record {
+    answers = sym (byte_there ∙ ap (λ (t : Bool). unless (word_if (not t) 17) (accepted b)) (sym (same_ranges b) ∙ e));
+    inside = λ v f. inside;
+  }
 
-unless_go : {X : Type 0} (w : ℕ) (o : Outcome X) → w ≡ 0 → unless w o ≡ o
-unless_go zero o e = refl
-unless_go (suc w) o e = absurd (omega arith)
-
-unless_stop : {X : Type 0} (w : ℕ) (o : Outcome X) → (w ≡ 0 → ⊥) → unless w o ≡ refused w
-unless_stop zero o d = absurd (d refl)
-unless_stop (suc w) o d = refl
+  pub other_read : is_ascii_alphanumeric b ≡ false → ByteRead sheet at (Err refusal.Label)
+  other_read e = record {
+    answers = sym (byte_there ∙ ap (λ (t : Bool). unless (word_if (not t) 17) (accepted b)) (sym (same_ranges b) ∙ e));
+    inside = λ v f. inside;
+  }
 
 -- ---- the bytes of a label
 
--- what is behind so many bytes
-abbrev pub bytes_rest : ℕ → List ℕ → Outcome (List ℕ)
-bytes_rest k bytes = and_then (read_bytes k bytes) to_rest
+-- one byte over the first blank
+one_filled : (text : List ℕ) (b i : ℕ) → length text ≡ i → i < longest_label → set (filled longest_label text) i b ≡ filled longest_label (text ++ (b ∷ []))
+unfolding filled
+one_filled text b i e h =
+    let k : longest_label - length text ≡ suc (longest_label - length (text ++ (b ∷ []))) = omega (arith, length-append text (b ∷ [])) in
+    ap (λ (j : ℕ). set (text ++ blanks j) i b) k
+    ∙ set_at text 32 (blanks (longest_label - length (text ++ (b ∷ [])))) b i e
+    ∙ sym (append_assoc text (b ∷ []) (blanks (longest_label - length (text ++ (b ∷ [])))))
 
-rest_behind : (b : ℕ) (o : Outcome Label) → and_then (and_then o (byte_in_front b)) to_rest ≡ and_then o to_rest
-rest_behind b (accepted x) = refl
-rest_behind b (refused k) = refl
+-- bytes in front of those of a label
+abbrev pub bytes_in_front : List ℕ → Label → Outcome Label
+bytes_in_front text x = accepted (record { label = text ++ x.label; rest = x.rest })
 
-no_byte : (k : ℕ) → bytes_rest (suc k) [] ≡ refused 8
+then_unless : {X : Type 0} (w b : ℕ) (f : ℕ → Outcome X) → unless w (f b) ≡ and_then (unless w (accepted b)) f
+then_unless zero b f = refl
+then_unless (suc w) b f = refl
+
+by_byte : (k : ℕ) (bytes : List ℕ) → read_bytes (suc k) bytes ≡ and_then (label_byte bytes) (λ b. and_then (read_bytes k (drop 1 bytes)) (byte_in_front b))
 unfolding read_bytes
-no_byte k = refl
+by_byte k [] = refl
+by_byte k (b ∷ bs) = then_unless (label_byte_word b) b (λ v. and_then (read_bytes k bs) (byte_in_front v))
 
-one_byte : (k b : ℕ) (bs : List ℕ) → bytes_rest (suc k) (b ∷ bs) ≡ and_then (unless (label_byte_word b) (and_then (read_bytes k bs) (byte_in_front b))) to_rest
+none_in_front : (o : Outcome Label) → and_then o (bytes_in_front []) ≡ o
+none_in_front (accepted x) = refl
+none_in_front (refused k) = refl
+
+one_in_front : (text : List ℕ) (b : ℕ) (o : Outcome Label) → and_then (and_then o (byte_in_front b)) (bytes_in_front text) ≡ and_then o (bytes_in_front (text ++ (b ∷ [])))
+one_in_front text b (accepted x) = ap (λ (l : List ℕ). accepted (record { label = l; rest = x.rest })) (sym (append_assoc text (b ∷ []) x.label))
+one_in_front text b (refused k) = refl
+
+-- some bytes are read, and the others of the label stand at the place
+pub record BytesSoFar (sheet : List ℕ) (at long : ℕ) (name : List ℕ) (place i : ℕ) : Type 0 where
+  pub text : List ℕ
+  pub count : length text ≡ i
+  pub name_is : name ≡ filled longest_label text
+  pub whole : read_bytes long (drop at sheet) ≡ and_then (read_bytes (long - i) (drop place sheet)) (bytes_in_front text)
+
+pub bytes_start : (sheet : List ℕ) (at long : ℕ) → BytesSoFar sheet at long (blanks longest_label) at 0
+unfolding filled
+bytes_start sheet at long = record {
+  text = [];
+  count = refl;
+  name_is = refl;
+  whole = sym (none_in_front (read_bytes (long - 0) (drop at sheet)) ∙ ap (λ (k : ℕ). read_bytes k (drop at sheet)) (let e : long - 0 ≡ long = omega arith in e));
+}
+
+module _ {sheet : List ℕ} {at long : ℕ} {name : List ℕ} {place i : ℕ} (s : BytesSoFar sheet at long name place i) (below : i < long) where
+  next_byte : (o : Outcome ℕ) → o ≡ label_byte (drop place sheet) →
+      read_bytes long (drop at sheet)
+      ≡ and_then (and_then o (λ b. and_then (read_bytes (long - (i + 1)) (drop (place + 1) sheet)) (byte_in_front b))) (bytes_in_front s.text)
+  next_byte o e =
+      let k : long - i ≡ suc (long - (i + 1)) = omega arith in
+      s.whole
+      ∙ ap (λ (p : Outcome Label). and_then p (bytes_in_front s.text))
+      (ap (λ (j : ℕ). read_bytes j (drop place sheet)) k ∙ by_byte (long - (i + 1)) (drop place sheet)
+      ∙ ap₂ (λ (q : Outcome ℕ) (rest : List ℕ). and_then q (λ b. and_then (read_bytes (long - (i + 1)) rest) (byte_in_front b)))
+      (sym e) (drop-drop 1 place sheet))
+
+  pub bytes_stop : {r : Refusal} → ByteRead sheet place (Err r) → read_bytes long (drop at sheet) ≡ refused (word r)
+  bytes_stop {r} h = next_byte (refused (word r)) h.answers
+
+  pub bytes_more : {b : ℕ} → long ≤ longest_label → ByteRead sheet place (Ok b) → BytesSoFar sheet at long (set name i b) (place + 1) (i + 1)
+  bytes_more {b} short h = record {
+    text = s.text ++ (b ∷ []);
+    count = length-append s.text (b ∷ []) ∙ omega (arith, s.count);
+    name_is = ap (λ (l : List ℕ). set l i b) s.name_is ∙ one_filled s.text b i s.count (omega arith);
+    whole = next_byte (accepted b) h.answers ∙ one_in_front s.text b (read_bytes (long - (i + 1)) (drop (place + 1) sheet));
+  }
+
+pub bytes_all : {sheet : List ℕ} {at long : ℕ} {name : List ℕ} {place i : ℕ} → BytesSoFar sheet at long name place i → i ≡ long →
+    LabelIs sheet (read_bytes long (drop at sheet)) (record { label = record { name = name; length = long }; next = place })
 unfolding read_bytes
-one_byte k b bs = refl
-
-pub bytes_all : (left : ℕ) (bytes : List ℕ) → left ≤ 0 → accepted bytes ≡ bytes_rest left bytes
-unfolding read_bytes
-bytes_all zero bytes h = refl
-bytes_all (suc k) bytes h = absurd (omega arith)
-
-module _ (sheet : List ℕ) (place left : ℕ) (some : 0 < left) where
-  last_one : left ≡ suc (left - 1)
-  last_one = omega arith
-
-  pub bytes_end : length sheet ≤ place → bytes_rest left (drop place sheet) ≡ refused 8
-  bytes_end h =
-      ap (λ (k : ℕ). bytes_rest k (drop place sheet)) last_one
-      ∙ ap (bytes_rest (suc (left - 1))) (drop_of_length-le sheet {i = place} h) ∙ no_byte (left - 1)
-
-  module _ (h : place < length sheet) {w : ℕ} (word : w ≡ label_byte_word (get_or sheet place 0)) where
-    here : drop place sheet ≡ get_or sheet place 0 ∷ drop (place + 1) sheet
-    here = drop-cons sheet place 0 h ∙ ap (λ (j : ℕ). get_or sheet place 0 ∷ drop j sheet) (sym (add-one place))
-
-    abbrev others : Outcome Label
-    others = and_then (read_bytes (left - 1) (drop (place + 1) sheet)) (byte_in_front (get_or sheet place 0))
-
-    this : bytes_rest left (drop place sheet) ≡ and_then (unless w others) to_rest
-    this =
-        ap (λ (k : ℕ). bytes_rest k (drop place sheet)) last_one ∙ ap (bytes_rest (suc (left - 1))) here
-        ∙ one_byte (left - 1) (get_or sheet place 0) (drop (place + 1) sheet)
-        ∙ ap (λ (k : ℕ). and_then (unless k others) to_rest) (sym word)
-
-    pub bytes_stop : (w ≡ 0 → ⊥) → bytes_rest left (drop place sheet) ≡ refused w
-    bytes_stop d = this ∙ ap (λ (o : Outcome Label). and_then o to_rest) (unless_stop w others d)
-
-    pub bytes_more : w ≡ 0 → bytes_rest left (drop place sheet) ≡ bytes_rest (left - 1) (drop (place + 1) sheet)
-    bytes_more e =
-        this ∙ ap (λ (o : Outcome Label). and_then o to_rest) (unless_go w others e)
-        ∙ rest_behind (get_or sheet place 0) (read_bytes (left - 1) (drop (place + 1) sheet))
+bytes_all {sheet} {at} {long} {name} {place} {i} s e =
+    let none : long - i ≡ 0 = omega arith in
+    record {
+      text = s.text;
+      kept = record { name_is = s.name_is; length_is = sym (s.count ∙ e) };
+      read =
+          s.whole ∙ ap (λ (k : ℕ). and_then (read_bytes k (drop place sheet)) (bytes_in_front s.text)) none
+          ∙ ap (λ (l : List ℕ). accepted (record { label = l; rest = drop place sheet })) (append-nil s.text);
+    }
 
 -- ---- a label
 
--- what is behind the label at the start of some bytes
-abbrev pub label_rest : List ℕ → Outcome (List ℕ)
-label_rest bytes = and_then (read_label bytes) to_rest
-
-abbrev with_length : Numeral → Outcome Label
+abbrev with_length : def.Numeral → Outcome Label
 with_length x = unless (label_length_word x.value) (read_bytes x.value x.rest)
 
-module _ (sheet : List ℕ) (at : ℕ) {r : _} (reads : ReadsAt sheet at r) where
-  label_by : (o : _) → r ≡ o → and_then (and_then (outcome_of sheet o) with_length) to_rest ≡ label_rest (drop at sheet)
+module _ {sheet : List ℕ} {at : ℕ} where
+  label_by : (r : Result number.Numeral Refusal) → ReadsAt sheet at r → and_then (outcome (placed sheet) r) with_length ≡ read_label (drop at sheet)
   unfolding read_label
-  label_by o e = ap (λ (p : Outcome Numeral). and_then (and_then p with_length) to_rest) (read_as reads o e)
+  label_by r reads = ap (λ (o : Outcome def.Numeral). and_then o with_length) reads.outcome
 
-  pub no_length : {w : ℕ} → r ≡ number.Refused w → refused w ≡ label_rest (drop at sheet)
-  no_length {w} e = label_by (number.Refused w) e
+  pub no_length : {r : Refusal} → ReadsAt sheet at (Err r) → read_label (drop at sheet) ≡ refused (word r)
+  no_length {r} reads = sym (label_by (Err r) reads)
 
-  module _ {x : read.Numeral} (e : r ≡ number.Number x) where
-    pub length_none : x.value < 1 → refused 17 ≡ label_rest (drop at sheet)
-    length_none h = rw (lt-ltb x.value 1 h) at (label_by (number.Number x) e)
+  module _ {x : number.Numeral} (reads : ReadsAt sheet at (Ok x)) where
+    pub length_none : x.value < 1 → read_label (drop at sheet) ≡ refused 17
+    length_none h = sym (rw (lt-ltb x.value 1 h) at (label_by (Ok x) reads))
 
     module _ (some : 1 ≤ x.value) where
-      pub length_large : 8 < x.value → refused 17 ≡ label_rest (drop at sheet)
-      length_large h = rw (le-ltb x.value 1 some, lt-ltb 8 x.value h) at (label_by (number.Number x) e)
+      pub length_large : 8 < x.value → read_label (drop at sheet) ≡ refused 17
+      length_large h = sym (rw (le-ltb x.value 1 some, lt-ltb 8 x.value h) at (label_by (Ok x) reads))
 
-      pub length_right : (o : PlaceAnswer) → x.value ≤ 8 → place_outcome sheet o ≡ bytes_rest x.value (drop x.next sheet) →
-          place_outcome sheet o ≡ label_rest (drop at sheet)
-      length_right o h p = p ∙ (rw (le-ltb x.value 1 some, le-ltb 8 x.value h) at (label_by (number.Number x) e))
+      pub length_right : x.value ≤ 8 → read_bytes x.value (drop x.next sheet) ≡ read_label (drop at sheet)
+      length_right h = rw (le-ltb x.value 1 some, le-ltb 8 x.value h) at (label_by (Ok x) reads)
 
 -- ---- all labels
 
--- the word of so many labels and of the end behind them
-abbrev pub labels_number : ℕ → List ℕ → ℕ
-labels_number k bytes = number_of (and_then (read_labels k bytes) to_tail)
+-- labels in front of others
+abbrev pub labels_in_front : List (List ℕ) → Labels → Outcome Labels
+labels_in_front texts x = accepted (record { labels = texts ++ x.labels; rest = x.rest })
 
-number_unless : {X : Type 0} (w : ℕ) (x : X) → number_of (unless w (accepted x)) ≡ w
-number_unless zero x = refl
-number_unless (suc w) x = refl
+by_label : (k : ℕ) (bytes : List ℕ) → read_labels (suc k) bytes ≡ and_then (read_label bytes) (λ x. and_then (read_labels k x.rest) (label_in_front x.label))
+unfolding read_labels
+by_label k bytes = refl
 
-number_in_front : (l : List ℕ) (o : Outcome Labels) → number_of (and_then (and_then o (label_in_front l)) to_tail) ≡ number_of (and_then o to_tail)
-number_in_front l (accepted x) = number_unless (tail_word x.rest) _ ∙ sym (number_unless (tail_word x.rest) x)
-number_in_front l (refused k) = refl
+no_labels : (bytes : List ℕ) → read_labels 0 bytes ≡ accepted (record { labels = []; rest = bytes })
+unfolding read_labels
+no_labels bytes = refl
 
--- the label in front, by its outcome
-module _ (k : ℕ) (bytes : List ℕ) where
-  front_stops : (o : Outcome Label) (w : ℕ) → read_label bytes ≡ o → and_then o to_rest ≡ refused w → labels_number (suc k) bytes ≡ w
-  unfolding read_labels
-  front_stops (accepted x) w e f = absurd (zero_is_not_one (cc))
-  front_stops (refused v) w e f = let same : v ≡ w = cc in rw e same
+no_label_in_front : (o : Outcome Labels) → and_then o (labels_in_front []) ≡ o
+no_label_in_front (accepted x) = refl
+no_label_in_front (refused k) = refl
 
-  front_goes_on : (o : Outcome Label) (rest : List ℕ) → read_label bytes ≡ o → and_then o to_rest ≡ accepted rest → labels_number (suc k) bytes ≡ labels_number k rest
-  unfolding read_labels
-  front_goes_on (accepted x) rest e f =
-      let same : x.rest ≡ rest = cc in
-      rw e (number_in_front x.label (read_labels k x.rest) ∙ ap (labels_number k) same)
-  front_goes_on (refused v) rest e f = absurd (zero_is_not_one (cc))
+one_label_in_front : (texts : List (List ℕ)) (l : List ℕ) (o : Outcome Labels) →
+    and_then (and_then o (label_in_front l)) (labels_in_front texts) ≡ and_then o (labels_in_front (texts ++ (l ∷ [])))
+one_label_in_front texts l (accepted x) = ap (λ (ls : List (List ℕ)). accepted (record { labels = ls; rest = x.rest })) (sym (append_assoc texts (l ∷ []) x.labels))
+one_label_in_front texts l (refused k) = refl
 
-module _ (sheet : List ℕ) (place left : ℕ) (some : 0 < left) (r : PlaceAnswer) (answer : place_outcome sheet r ≡ label_rest (drop place sheet)) where
-  last : labels_number left (drop place sheet) ≡ labels_number (suc (left - 1)) (drop place sheet)
-  last = ap (λ (k : ℕ). labels_number k (drop place sheet)) (let e : left ≡ suc (left - 1) = omega arith in e)
+-- the labels of the controls before one are read, and the others stand at the place
+pub record LabelsSoFar (sheet : List ℕ) (array : List code.Label) (place control : ℕ) : Type 0 where
+  pub texts : List (List ℕ)
+  pub count : length texts ≡ control
+  pub sixteen : length array ≡ most_controls
+  pub kept : (i : ℕ) (d : code.Label) → i < control → HasLabel (get_or array i d) (label_of texts i)
+  pub whole : read_labels most_controls sheet ≡ and_then (read_labels (most_controls - control) (drop place sheet)) (labels_in_front texts)
 
-  pub labels_stop : {w : ℕ} → r ≡ Refused w → labels_number left (drop place sheet) ≡ w
-  labels_stop {w} e = last ∙ front_stops (left - 1) (drop place sheet) (read_label (drop place sheet)) w refl (sym answer ∙ ap (place_outcome sheet) e)
+pub labels_start : (sheet : List ℕ) (array : List code.Label) → length array ≡ most_controls → LabelsSoFar sheet array 0 0
+labels_start sheet array e = record {
+  texts = [];
+  count = refl;
+  sixteen = e;
+  kept = λ i d h. absurd (zero_is_not_one (omega arith));
+  whole = sym (no_label_in_front (read_labels most_controls sheet));
+}
 
-  pub labels_more : {next : ℕ} → r ≡ Next next → labels_number left (drop place sheet) ≡ labels_number (left - 1) (drop next sheet)
-  labels_more {next} e = last ∙ front_goes_on (left - 1) (drop place sheet) (read_label (drop place sheet)) (drop next sheet) refl (sym answer ∙ ap (place_outcome sheet) e)
+module _ {sheet : List ℕ} {array : List code.Label} {place control : ℕ} (s : LabelsSoFar sheet array place control) where
+  module _ (below : control < most_controls) where
+    next_label : (o : Outcome Label) → read_label (drop place sheet) ≡ o →
+        read_labels most_controls sheet
+        ≡ and_then (and_then o (λ x. and_then (read_labels (most_controls - (control + 1)) x.rest) (label_in_front x.label))) (labels_in_front s.texts)
+    next_label o e =
+        let k : most_controls - control ≡ suc (most_controls - (control + 1)) = omega arith in
+        s.whole
+        ∙ ap (λ (p : Outcome Labels). and_then p (labels_in_front s.texts))
+        (ap (λ (j : ℕ). read_labels j (drop place sheet)) k ∙ by_label (most_controls - (control + 1)) (drop place sheet)
+        ∙ ap (λ (q : Outcome Label). and_then q (λ x. and_then (read_labels (most_controls - (control + 1)) x.rest) (label_in_front x.label))) e)
 
-module _ (sheet : List ℕ) (place left : ℕ) (none : left ≤ 0) where
-  all_read : labels_number left (drop place sheet) ≡ tail_word (drop place sheet)
-  unfolding read_labels
-  all_read =
-      ap (λ (k : ℕ). labels_number k (drop place sheet)) (let e : left ≡ zero = omega arith in e)
-      ∙ number_unless (tail_word (drop place sheet)) _
+    pub labels_stop : {w : ℕ} → read_label (drop place sheet) ≡ refused w → and_then (read_labels most_controls sheet) to_tail ≡ refused w
+    labels_stop {w} e = ap (λ (o : Outcome Labels). and_then o to_tail) (next_label (refused w) e)
 
-  pub with_tail : place < length sheet → labels_number left (drop place sheet) ≡ 9
-  with_tail h = all_read ∙ simp (ne_eqb (length (drop place sheet)) 0 (λ (e : length (drop place sheet) ≡ 0). omega (arith, length-drop place sheet)))
-
-  pub without_tail : length sheet ≤ place → labels_number left (drop place sheet) ≡ 0
-  without_tail h = all_read ∙ simp (eq-eqb (length (drop place sheet)) 0 (omega (arith, length-drop place sheet)))
-
--- ---- the word of the sheet
-
-abbrev to_number : Outcome Labels → ℕ
-to_number o = number_of (and_then o sheet_end)
-
-number_sheet : (sheet : List ℕ) → sheet_number sheet ≡ to_number (read_labels most_controls sheet)
-unfolding read_sheet
-number_sheet sheet = refl
-
-stopped : (o : Outcome Labels) {w : ℕ} → w ≡ number_of (and_then o to_tail) → (w ≡ 0 → ⊥) → w ≡ to_number o
-stopped (accepted x) {w} e d =
-    let tail : w ≡ tail_word x.rest = e ∙ number_unless (tail_word x.rest) x in
-    sym (ap number_of (unless_stop (tail_word x.rest) _ (λ z. d (tail ∙ z))) ∙ sym tail)
-stopped (refused k) e d = e
-
--- tests that are not passed
-pub sheet_stops : (sheet : List ℕ) {w : ℕ} → w ≡ labels_number most_controls sheet → (w ≡ 0 → ⊥) → w ≡ sheet_number sheet
-sheet_stops sheet e d = stopped (read_labels most_controls sheet) e d ∙ sym (number_sheet sheet)
-
--- tests that are passed: the labels, and no tail
-pub record SheetTested (sheet : List ℕ) : Type 0 where
-  pub labels : Labels
-  pub read : read_labels most_controls sheet ≡ accepted labels
-  pub ends : tail_word labels.rest ≡ 0
-
-pub sheet_tested : (sheet : List ℕ) {w : ℕ} → w ≡ labels_number most_controls sheet → w ≡ 0 → SheetTested sheet
-sheet_tested sheet {w} e z = by (read_labels most_controls sheet) refl
-  where
-    by : (o : Outcome Labels) → read_labels most_controls sheet ≡ o → SheetTested sheet
-    by (accepted x) f = record {
-      labels = x;
-      read = f;
-      ends = sym (number_unless (tail_word x.rest) x) ∙ ap (λ (o : Outcome Labels). number_of (and_then o to_tail)) (sym f) ∙ sym e ∙ z;
+    pub labels_more : {x : LabelAt} → LabelIs sheet (read_label (drop place sheet)) x → LabelsSoFar sheet (set array control x.label) x.next (control + 1)
+    labels_more {x} l = record {
+      texts = s.texts ++ (l.text ∷ []);
+      count = length-append s.texts (l.text ∷ []) ∙ omega (arith, s.count);
+      sixteen = length-set array control x.label ∙ s.sixteen;
+      kept = kept_to;
+      whole =
+          next_label (accepted (record { label = l.text; rest = drop x.next sheet })) l.read
+          ∙ one_label_in_front s.texts l.text (read_labels (most_controls - (control + 1)) (drop x.next sheet));
     }
-    by (refused k) f =
-        let same : k ≡ 0 = ap (λ (o : Outcome Labels). number_of (and_then o to_tail)) (sym f) ∙ sym e ∙ z in
-        absurd (omega (arith, worded_labels most_controls sheet k f))
+      where
+        kept_to : (i : ℕ) (d : code.Label) → i < control + 1 → HasLabel (get_or (set array control x.label) i d) (label_of (s.texts ++ (l.text ∷ [])) i)
+        kept_to i d h = elim (ℕ_discrete i control) [
+          | yes e ↦ rw (e, get_or-set_at array control control x.label d refl (omega (arith, s.sixteen)), get_or_at s.texts l.text [] [] control s.count) l.kept
+          | no e ↦
+              rw (get_or-set_other array control i x.label d e, get_or-append s.texts (l.text ∷ []) [] i (omega (arith, s.count)))
+              (s.kept i d (omega arith))
+        ]
 
--- then the word is that of equal labels, and without it the sheet is accepted
-module _ (sheet : List ℕ) (t : SheetTested sheet) where
-  by_labels : read_sheet sheet ≡ unless (equal_word t.labels.labels) (accepted t.labels.labels)
-  unfolding read_sheet
-  by_labels = rw (t.read, t.ends)
+  module _ (all : most_controls ≤ control) (few : control ≤ most_controls) where
+    read_all : read_labels most_controls sheet ≡ accepted (record { labels = s.texts; rest = drop place sheet })
+    read_all =
+        let none : most_controls - control ≡ 0 = omega arith in
+        s.whole ∙ ap (λ (k : ℕ). and_then (read_labels k (drop place sheet)) (labels_in_front s.texts)) none
+        ∙ ap (λ (o : Outcome Labels). and_then o (labels_in_front s.texts)) (no_labels (drop place sheet))
+        ∙ ap (λ (ls : List (List ℕ)). accepted (record { labels = ls; rest = drop place sheet })) (append-nil s.texts)
 
-  pub sheet_word : equal_word t.labels.labels ≡ sheet_number sheet
-  sheet_word = sym (ap number_of by_labels ∙ number_unless (equal_word t.labels.labels) t.labels.labels)
+    tail_by : (t : Bool) → eqb (length (drop place sheet)) 0 ≡ t → and_then (read_labels most_controls sheet) to_tail
+        ≡ unless (word_if (not t) 9) (accepted (record { labels = s.texts; rest = drop place sheet }))
+    tail_by t e =
+        ap (λ (o : Outcome Labels). and_then o to_tail) read_all
+        ∙ ap (λ (b : Bool). unless (word_if (not b) 9) (accepted (record { labels = s.texts; rest = drop place sheet }))) e
 
-  pub sheet_accepts : equal_word t.labels.labels ≡ 0 → read_sheet sheet ≡ accepted t.labels.labels
-  sheet_accepts e = by_labels ∙ unless_go (equal_word t.labels.labels) (accepted t.labels.labels) e
+    pub with_tail : place < length sheet → and_then (read_labels most_controls sheet) to_tail ≡ refused 9
+    with_tail h = tail_by false (ne_eqb (length (drop place sheet)) 0 (λ (e : length (drop place sheet) ≡ 0). omega (arith, length-drop place sheet)))
+
+    read : theory.LabelsRead most_controls sheet (record { labels = s.texts; rest = drop place sheet })
+    read = theory.labels_read most_controls sheet (record { labels = s.texts; rest = drop place sheet }) read_all
+
+    sixteen : length s.texts ≡ most_controls
+    sixteen = omega (arith, s.count)
+
+    kept : (i : ℕ) (d : code.Label) → i < most_controls → HasLabel (get_or array i d) (label_of s.texts i)
+    kept i d h = s.kept i d (omega arith)
+
+    pub labels_all : length sheet ≤ place → LabelsAre (and_then (read_labels most_controls sheet) to_tail) array
+    labels_all h = record {
+      held = held s.texts sixteen read.each array s.sixteen kept;
+      rest = drop place sheet;
+      read =
+          tail_by true (eq-eqb (length (drop place sheet)) 0 (omega (arith, length-drop place sheet)))
+          ∙ ap (λ (ls : List (List ℕ)). accepted (record { labels = ls; rest = drop place sheet })) (sym (these s.texts sixteen read.each array s.sixteen kept));
+    }

@@ -1,132 +1,89 @@
--- Laws of labels as numbers.
---   name_bytes, name_label   the bytes of a name are the label filled with blanks, and before the first blank the label
---   bytes_length             so many bytes of a number are so many
---   labels_length, label_at  an array has sixteen labels, and each of them
---   labels_are, held         an array that has the names and lengths of sixteen good labels (HasLabels) has just these labels
---   same_names, other_names  two labels of an array are the same exactly if their names are
-use Rattle.std.specs.Prelude.{◌≡◌, refl, Bool, true, false, List, [], ◌∷◌, ◌++◌, map, ℕ, zero, suc, ◌+◌, ◌*◌, ◌-◌, ◌/◌, ◌%◌, ◌<◌, ◌≤◌, get_or}
-use Rattle.std.proofs.Common.{sym, ◌∙◌, ap₂, subst, ⊎_elim, arith, ext_get_or, lt-ltb, le-ltb}
-use Rattle.std.proofs.Math.Path.{ap}
-use Rattle.std.proofs.Math.ListN.{length}
-use Rattle.std.proofs.lemmas.List.{length-map}
+-- Laws of labels as they are kept.
+--   name_label               the bytes of a kept label before the first blank are the label
+--   label_here               a label that is kept for a text is this text without the blanks
+--   labels_length, label_at  as many labels as are kept, and each of them
+--   labels_are               labels that are kept for some texts are these texts
+--   held                     labels that are kept for sixteen good ones are held
+--   same_names, other_names  two labels are the same exactly if their names are
+--   number_is, loaded        what reading a sheet answers: its number, and its labels if it is accepted
+use Rattle.std.specs.Prelude.{◌≡◌, Result, Ok, Err, Bool, true, false, refl, List, [], ℕ, ◌-◌, ◌<◌, length, take, get_or}
+use Rattle.std.proofs.Common.{sym, ◌∙◌, ap, ap₂, arith, ext_get_or, take_at}
+use Rattle.std.proofs.lemmas.List.{length-map, get_or-map}
 use Rattle.definitions.specs.Limits.{most_controls, longest_label}
-use Rattle.definitions.specs.Sums.{tabulate, at}
-use Rattle.definitions.specs.Sheets.{alphanumeric, same, label_of}
+use Rattle.definitions.specs.Sheets.{alphanumeric, same, label_of, read_sheet, sheet_number, sheet_labels}
 use Rattle.definitions.specs.Pages.{blanks, filled}
-use Rattle.theory.specs.Tests.{below_or, zero_is_not_one}
-use Rattle.theory.specs.Lists.{length-tabulate, at-tabulate}
-use Rattle.page_theory.specs.Widths.{length-filled}
-use Rattle.label_theory.specs.Labels.{AllAlphanumeric, GoodLabel, same_self, same_is}
+use Rattle.label_theory.specs.Labels.{GoodLabel, same_self, same_is}
 use Rattle.label_theory.specs.Splitting.{word, word-filled, good_free}
-use Rattle.label_sheet.specs.LabelArrays.{as_number, bytes_of, name_of, array_length, label_in, labels_in, Held}
-
--- ---- bytes and numbers
-
-abbrev AllBytes : List ℕ → Type 0
-AllBytes [] = Unit {0}
-AllBytes (b ∷ bs) = (b < 256) × AllBytes bs
-
-bytes_number : (bs : List ℕ) → AllBytes bs → bytes_of (length bs) (as_number bs) ≡ bs
-unfolding as_number bytes_of
-bytes_number [] h = refl
-bytes_number (b ∷ bs) h =
-    let low : (256 * as_number bs + b) % 256 ≡ b = omega (arith, h.0) in
-    let high : (256 * as_number bs + b) / 256 ≡ as_number bs = omega (arith, h.0) in
-    ap₂ (λ (x : ℕ) (l : List ℕ). x ∷ l) low (ap (bytes_of (length bs)) high ∙ bytes_number bs h.1)
-
-large_byte : (b : ℕ) → 123 ≤ b → alphanumeric b ≡ false
-unfolding alphanumeric
-large_byte b h =
-    simp (
-      le-ltb b 48 (omega arith),
-      lt-ltb 57 b (omega arith),
-      le-ltb b 65 (omega arith),
-      lt-ltb 90 b (omega arith),
-      le-ltb b 97 (omega arith),
-      lt-ltb 122 b (omega arith),
-    )
-
-good_byte : (b : ℕ) → alphanumeric b ≡ true → b < 256
-good_byte b e = ⊎_elim
-    (λ (l : b < 123). omega arith)
-    (λ (l : 123 ≤ b). absurd (let f : false ≡ true = sym (large_byte b l) ∙ e in zero_is_not_one (cc)))
-    (below_or b 123)
-
-pub bytes_length : (k v : ℕ) → length (bytes_of k v) ≡ k
-unfolding bytes_of
-bytes_length zero v = refl
-bytes_length (suc k) v = ap suc (bytes_length k (v / 256))
-
-good_bytes : (l : List ℕ) (k : ℕ) → AllAlphanumeric l → AllBytes (l ++ blanks k)
-good_bytes [] zero h = tt
-good_bytes [] (suc k) h = (omega arith, good_bytes [] k h)
-good_bytes (b ∷ l) k h = (good_byte b h.0, good_bytes l k h.1)
+use Rattle.label_theory.specs.LabelLaws.{AcceptedSheet}
+use Rattle.label_sheet.specs.declared.labels.Label.{Label}
+use Rattle.label_sheet.specs.declared.labels.Labels.{Labels}
+use Rattle.label_sheet.specs.SheetAnswers.{sheet_outcome}
+use Rattle.refusals.specs.Words.{word_of}
+use Rattle.refusals.specs.declared.Refusal.{Refusal}
+use Rattle.definitions.specs.Outcomes.{number_of, value_or}
+use Rattle.label_sheet.specs.LabelArrays.{label_in, labels_in, HasLabel, Held}
 
 blank_is : alphanumeric 32 ≡ false
 unfolding alphanumeric
 blank_is = refl
 
-module _ (l : List ℕ) (good : GoodLabel l) where
-  pub name_bytes : bytes_of longest_label (name_of l) ≡ filled longest_label l
-  unfolding filled
-  name_bytes =
-      ap (λ (k : ℕ). bytes_of k (name_of l)) (sym (length-filled longest_label l good.short))
-      ∙ bytes_number (filled longest_label l) (good_bytes l (longest_label - length l) good.bytes)
+pub name_label : (l : List ℕ) → GoodLabel l → word (filled longest_label l) ≡ l
+unfolding filled
+name_label l good = word-filled l (longest_label - length l) (good_free 32 l blank_is good.bytes)
 
-  pub name_label : word (bytes_of longest_label (name_of l)) ≡ l
-  unfolding filled
-  name_label = ap word name_bytes ∙ word-filled l (longest_label - length l) (good_free 32 l blank_is good.bytes)
+pub label_here : {l : Label} {text : List ℕ} → HasLabel l text → label_in l ≡ text
+unfolding filled
+label_here {l} {text} h =
+    ap₂ (λ (k : ℕ) (name : List ℕ). take k name) h.length_is h.name_is ∙ take_at text (blanks (longest_label - length text)) (length text) refl
 
--- ---- arrays
+pub labels_length : (array : List Label) → length (labels_in array) ≡ length array
+labels_length array = length-map array label_in
 
-pub labels_length : (array : List ℕ) → length (labels_in array) ≡ most_controls
-unfolding labels_in
-labels_length array = length-map (tabulate most_controls (λ i. i)) (label_in array) ∙ length-tabulate most_controls (λ i. i)
+pub label_at : (array : List Label) (i : ℕ) (d : Label) → i < length array → label_of (labels_in array) i ≡ label_in (get_or array i d)
+label_at array i d h = get_or-map label_in array i d [] h
 
-pub label_at : (array : List ℕ) (i : ℕ) → i < most_controls → label_of (labels_in array) i ≡ label_in array i
-unfolding labels_in
-label_at array i h =
-    within (tabulate most_controls (λ j. j)) i (omega (arith, length-tabulate most_controls (λ j. j)))
-    ∙ ap (label_in array) (at-tabulate most_controls (λ j. j) i h)
-  where
-    within : (l : List ℕ) (i : ℕ) → i < length l → get_or (map (label_in array) l) i [] ≡ label_in array (get_or l i 0)
-    within [] i h = absurd (zero_is_not_one (omega arith))
-    within (x ∷ l) zero h = refl
-    within (x ∷ l) (suc i) h = within l i (omega arith)
-
--- an array with the names and the lengths of some labels
-pub record HasLabels (ls : List (List ℕ)) (k : ℕ) (array : List ℕ) : Type 0 where
-  pub long : length array ≡ array_length
-  pub names : (i : ℕ) → i < k → at array i ≡ name_of (label_of ls i)
-  pub lengths : (i : ℕ) → i < k → at array (most_controls + i) ≡ length (label_of ls i)
+pub labels_are : (ls : List (List ℕ)) (array : List Label) → length array ≡ length ls →
+    ((i : ℕ) (d : Label) → i < length array → HasLabel (get_or array i d) (label_of ls i)) → labels_in array ≡ ls
+labels_are ls array e kept =
+    ext_get_or [] (labels_in array) ls (labels_length array ∙ e)
+    (λ i h.
+    let some : Label = record { name = []; length = 0 } in
+    let inside : i < length array = omega (arith, labels_length array) in
+    label_at array i some inside ∙ label_here (kept i some inside))
 
 module _ (ls : List (List ℕ)) (sixteen : length ls ≡ most_controls) (good : (i : ℕ) → i < most_controls → GoodLabel (label_of ls i))
-    (array : List ℕ) (has : HasLabels ls most_controls array) where
-  one_label : (i : ℕ) → i < most_controls → label_of (labels_in array) i ≡ label_of ls i
-  one_label i h = label_at array i h ∙ ap (λ (v : ℕ). word (bytes_of longest_label v)) (has.names i h) ∙ name_label (label_of ls i) (good i h)
-
-  pub labels_are : labels_in array ≡ ls
-  labels_are = ext_get_or [] (labels_in array) ls (labels_length array ∙ sym sixteen) (λ i h. one_label i (omega (arith, labels_length array)))
+    (array : List Label) (long : length array ≡ most_controls)
+    (kept : (i : ℕ) (d : Label) → i < most_controls → HasLabel (get_or array i d) (label_of ls i)) where
+  pub these : labels_in array ≡ ls
+  these = labels_are ls array (long ∙ sym sixteen) (λ i d h. kept i d (omega arith))
 
   pub held : Held array
   held = record {
-    long = has.long;
-    each = λ i h. subst GoodLabel (sym (one_label i h)) (good i h);
-    names = λ i h. has.names i h ∙ ap name_of (sym (one_label i h));
-    lengths = λ i h. has.lengths i h ∙ ap length (sym (one_label i h));
+    sixteen = long;
+    each = λ i h. rw these (good i h);
+    kept = λ i d h. rw these (kept i d h);
   }
 
-module _ (array : List ℕ) (held : Held array) (i j : ℕ) (h : i < most_controls) (k : j < most_controls) where
-  pub same_names : at array i ≡ at array j → same (label_of (labels_in array) i) (label_of (labels_in array) j) ≡ true
+module _ (array : List Label) (are : Held array) (i j : ℕ) (d : Label) (h : i < most_controls) (k : j < most_controls) where
+  pub same_names : (get_or array i d).name ≡ (get_or array j d).name → same (label_of (labels_in array) i) (label_of (labels_in array) j) ≡ true
   same_names e =
+      let both : filled longest_label (label_of (labels_in array) i) ≡ filled longest_label (label_of (labels_in array) j) =
+      sym (are.kept i d h).name_is ∙ e ∙ (are.kept j d k).name_is in
       let one : label_of (labels_in array) i ≡ label_of (labels_in array) j =
-      label_at array i h ∙ ap (λ (v : ℕ). word (bytes_of longest_label v)) e ∙ sym (label_at array j k) in
+      sym (name_label (label_of (labels_in array) i) (are.each i h)) ∙ ap word both ∙ name_label (label_of (labels_in array) j) (are.each j k) in
       ap (same (label_of (labels_in array) i)) (sym one) ∙ same_self (label_of (labels_in array) i)
 
-  pub other_names : (at array i ≡ at array j → ⊥) → same (label_of (labels_in array) i) (label_of (labels_in array) j) ≡ false
-  other_names d = by (same (label_of (labels_in array) i) (label_of (labels_in array) j)) refl
+  pub other_names : ((get_or array i d).name ≡ (get_or array j d).name → ⊥) → same (label_of (labels_in array) i) (label_of (labels_in array) j) ≡ false
+  other_names n = by (same (label_of (labels_in array) i) (label_of (labels_in array) j)) refl
     where
       by : (b : Bool) → same (label_of (labels_in array) i) (label_of (labels_in array) j) ≡ b → b ≡ false
       by false e = refl
       by true e =
-          absurd (d (held.names i h ∙ ap name_of (same_is (label_of (labels_in array) i) (label_of (labels_in array) j) e) ∙ sym (held.names j k)))
+          absurd (n ((are.kept i d h).name_is ∙ ap (filled longest_label) (same_is (label_of (labels_in array) i) (label_of (labels_in array) j) e) ∙ sym (are.kept j d k).name_is))
+
+pub number_is : (sheet : List ℕ) (r : Result Labels Refusal) → sheet_outcome r ≡ read_sheet sheet → word_of r ≡ sheet_number sheet
+number_is sheet (Ok x) e = ap number_of e
+number_is sheet (Err r) e = ap number_of e
+
+pub loaded : (sheet : List ℕ) (x : Labels) → sheet_outcome (Ok x) ≡ read_sheet sheet → AcceptedSheet sheet × (labels_in x.labels ≡ sheet_labels sheet)
+loaded sheet x e = (sym (ap number_of e), ap (value_or [] (λ (ls : List (List ℕ)). ls)) e)

@@ -1,61 +1,41 @@
--- The labels of a sheet as an array of numbers: the name of each, and then the length of each.
-use Rattle.std.specs.Prelude.{◌≡◌, cond, List, [], ◌∷◌, map, ℕ, zero, suc, ◌+◌, ◌*◌, ◌/◌, ◌%◌, ◌<◌, ltb, length}
+-- Labels as they are kept: each filled with blanks to eight bytes, with its length beside.
+use Rattle.std.specs.Prelude.{◌≡◌, List, [], ◌∷◌, map, ℕ, ◌<◌, length, take, get_or}
+use Rattle.std.specs.Coded.{×_prop, Unit-prop}
+use Rattle.std.proofs.Props.{props}
 use Rattle.definitions.specs.Limits.{most_controls, longest_label}
-use Rattle.definitions.specs.Sums.{tabulate, at}
-use Rattle.definitions.specs.Outcomes.{accepted}
-use Rattle.definitions.specs.Sheets.{Labels, read_labels, sheet_labels, label_of}
+use Rattle.definitions.specs.Sheets.{label_of}
 use Rattle.definitions.specs.Pages.{filled}
-use Rattle.label_theory.specs.Labels.{GoodLabel}
-use Rattle.label_theory.specs.Splitting.{word}
-use Rattle.label_theory.specs.LabelLaws.{AcceptedSheet}
+use Rattle.label_theory.specs.Labels.{AllAlphanumeric, GoodLabel, GoodLabels}
+use Rattle.label_sheet.specs.declared.labels.Label.{Label}
 
--- ---- a label as a number
+-- the label itself, without the blanks
+abbrev pub label_in : Label → List ℕ
+label_in l = take l.length l.name
 
--- bytes as one number, the first byte lowest
-unfoldable pub as_number : List ℕ → ℕ
-as_number [] = 0
-as_number (b ∷ bs) = 256 * as_number bs + b
+-- some labels
+abbrev pub labels_in : List Label → List (List ℕ)
+labels_in array = map label_in array
 
--- and so many bytes of a number
-unfoldable pub bytes_of : ℕ → ℕ → List ℕ
-bytes_of zero v = []
-bytes_of (suc k) v = (v % 256) ∷ bytes_of k (v / 256)
+-- a label as it is kept
+pub record HasLabel (l : Label) (text : List ℕ) : Type 0 where
+  pub name_is : l.name ≡ filled longest_label text
+  pub length_is : l.length ≡ length text
 
--- the name of a label: its bytes, filled with blanks to eight, as one number
-abbrev pub name_of : List ℕ → ℕ
-name_of l = as_number (filled longest_label l)
-
--- byte i of a label that is filled with blanks
-abbrev pub byte_or_blank : List ℕ → ℕ → ℕ
-byte_or_blank l i = cond (ltb i (length l)) (at l i) 32
-
--- ---- sixteen labels
-
-abbrev pub array_length : ℕ
-array_length = 32
-
--- the label of a name: its bytes before the first blank
-abbrev pub label_in : List ℕ → ℕ → List ℕ
-label_in array i = word (bytes_of longest_label (at array i))
-
--- the labels whose names an array has
-unfoldable pub labels_in : List ℕ → List (List ℕ)
-labels_in array = map (label_in array) (tabulate most_controls (λ i. i))
-
--- an array that has names and lengths of sixteen labels
-pub record Held (array : List ℕ) : Type 0 where
-  pub long : length array ≡ array_length
+-- labels that are kept for sixteen good ones, which may be equal
+pub record Held (array : List Label) : Type 0 where
+  pub sixteen : length array ≡ most_controls
   pub each : (i : ℕ) → i < most_controls → GoodLabel (label_of (labels_in array) i)
-  pub names : (i : ℕ) → i < most_controls → at array i ≡ name_of (label_of (labels_in array) i)
-  pub lengths : (i : ℕ) → i < most_controls → at array (most_controls + i) ≡ length (label_of (labels_in array) i)
+  pub kept : (i : ℕ) (d : Label) → i < most_controls → HasLabel (get_or array i d) (label_of (labels_in array) i)
 
--- an array with the labels that were read from a sheet, which may be equal
-pub record Fills (sheet array : List ℕ) : Type 0 where
+-- and for sixteen good ones, no two of which are the same
+pub record Ready (array : List Label) : Type 0 where
   pub held : Held array
-  pub labels_are : (x : Labels) → read_labels most_controls sheet ≡ accepted x → labels_in array ≡ x.labels
+  pub good : GoodLabels (labels_in array)
 
--- an array with the labels of an accepted sheet
-pub record Loaded (sheet array : List ℕ) : Type 0 where
-  pub held : Held array
-  pub read : AcceptedSheet sheet
-  pub labels_are : labels_in array ≡ sheet_labels sheet
+-- these facts have one proof
+pub alphanumeric-prop : (l : List ℕ) → IsProp (AllAlphanumeric l)
+alphanumeric-prop [] = Unit-prop
+alphanumeric-prop (b ∷ l) = ×_prop (Prim.hlevel props) (alphanumeric-prop l)
+
+pub ready-prop : (array : List Label) → IsProp (Ready array)
+ready-prop array = Prim.hlevel (props, alphanumeric-prop)

@@ -1,3 +1,3 @@
-pub mod SheetAnswers
 pub mod LabelArrays
+pub mod SheetAnswers
 pub mod ArrayLaws

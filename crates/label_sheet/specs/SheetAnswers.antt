@@ -1,25 +1,50 @@
--- What reading at a place of a sheet answers: the place behind, or the word.
-use Rattle.std.specs.Prelude.{◌≡◌, List, ℕ, drop}
-use Rattle.definitions.specs.Limits.{most_controls}
+-- What reading at a place of a sheet answers: what stands there, or the word.
+use Rattle.std.specs.Prelude.{◌≡◌, Result, Ok, Err, List, [], ◌∷◌, ℕ, ◌<◌, length, drop}
+use Rattle.refusals.specs.Words.{word}
+use Rattle.refusals.specs.declared.Refusal.{Refusal}
 use Rattle.definitions.specs.Outcomes.{Outcome, accepted, refused, unless}
 use Rattle.definitions.specs.Files.{tail_word}
-use Rattle.definitions.specs.Sheets.{Label, Labels, read_labels}
-use Rattle.label_sheet.specs.declared.PlaceAnswer.{PlaceAnswer}
-use Rattle.label_sheet.specs.declared.PlaceAnswer.TheVariants.{Next, Refused}
+use Rattle.definitions.specs.Sheets.{Label, Labels, label_byte_word}
+use Rattle.number_groups.specs.NumberAnswers.{outcome}
+use Rattle.label_sheet.specs.declared.LabelAt.{LabelAt}
+use Rattle.label_sheet.specs.declared.labels.Label as code
+use Rattle.label_sheet.specs.declared.labels.Labels as sheet
+use Rattle.label_sheet.specs.LabelArrays.{HasLabel, Held, labels_in}
 
--- the bytes behind a label
-abbrev pub to_rest : Label → Outcome (List ℕ)
-to_rest x = accepted x.rest
+-- the byte of a label at the start of some bytes: 8 if there is none, then 17
+abbrev pub label_byte : List ℕ → Outcome ℕ
+label_byte [] = refused 8
+label_byte (b ∷ bs) = unless (label_byte_word b) (accepted b)
 
--- an answer as an outcome: the bytes from the place on
-abbrev pub place_outcome : List ℕ → PlaceAnswer → Outcome (List ℕ)
-place_outcome sheet (Next place) = accepted (drop place sheet)
-place_outcome sheet (Refused k) = refused k
+-- what is read at a place is a byte inside the sheet
+pub record ByteRead (sheet : List ℕ) (at : ℕ) (r : Result ℕ Refusal) : Type 0 where
+  pub answers : outcome (λ b. b) r ≡ label_byte (drop at sheet)
+  pub inside : (b : ℕ) → r ≡ Ok b → at < length sheet
+
+-- a label that was read: what it is, and the bytes behind it
+pub record LabelIs (sheet : List ℕ) (o : Outcome Label) (x : LabelAt) : Type 0 where
+  pub text : List ℕ
+  pub kept : HasLabel x.label text
+  pub read : o ≡ accepted (record { label = text; rest = drop x.next sheet })
+
+abbrev pub LabelRead : List ℕ → Outcome Label → Result LabelAt Refusal → Type 0
+LabelRead sheet o (Ok x) = LabelIs sheet o x
+LabelRead sheet o (Err r) = o ≡ refused (word r)
 
 -- the labels, and then nothing (9)
 abbrev pub to_tail : Labels → Outcome Labels
 to_tail x = unless (tail_word x.rest) (accepted x)
 
--- a sheet whose labels can all be read
-abbrev pub Tested : List ℕ → Type 0
-Tested sheet = (x : Labels) × (read_labels most_controls sheet ≡ accepted x)
+-- the labels that were read, which may be equal
+pub record LabelsAre (o : Outcome Labels) (array : List code.Label) : Type 0 where
+  pub held : Held array
+  pub rest : List ℕ
+  pub read : o ≡ accepted (record { labels = labels_in array; rest = rest })
+
+abbrev pub LabelsRead : Outcome Labels → Result (List code.Label) Refusal → Type 0
+LabelsRead o (Ok array) = LabelsAre o array
+LabelsRead o (Err r) = o ≡ refused (word r)
+
+-- a sheet's labels, or the word
+abbrev pub sheet_outcome : Result sheet.Labels Refusal → Outcome (List (List ℕ))
+sheet_outcome r = outcome (λ x. labels_in x.labels) r

@@ -1,12 +1,16 @@
 -- The steps of counting lines and pages, of the rest of a line, and of a heading.
-use mathlib.Core.Path.{◌≡◌, ap}
+use mathlib.Core.Path.{◌≡◌, refl, sym, ◌∙◌, ap}
+use mathlib.Core.Bool.{Bool, not, cond}
 use mathlib.Core.List.{List, [], ◌∷◌}
-use Prim.Native.Nat.{ℕ, ◌+◌, ◌/◌, ◌<◌, ◌≤◌}
+use Prim.Native.Nat.{ℕ, zero, suc, ◌+◌, ◌/◌, ◌%◌, ◌<◌, max, min}
+use lib.Dec.{eqb, eqb-suc-zero}
+use Rattle.std.specs.List.{count_by}
+use Rattle.std.proofs.lemmas.List.Sums.{count_by-le-length, sum_by-drop_more}
 use native.Mathlib.Omega.{arith}
-use lib.ListN.{length}
+use lib.ListN.{length, drop, drop_of_length-le}
 use Rattle.definitions.specs.Sums.{at}
 use Rattle.definitions.specs.Show.{decimal}
-use Rattle.definitions.specs.Pages.{filled, aligned, behind_column, heading_text, heading, nonzero_codes, pages_for}
+use Rattle.definitions.specs.Pages.{filled, aligned, behind_column, heading_text, heading, pages_for}
 use Rattle.text_pieces.specs.Text.{Writes}
 use Rattle.text_pieces.specs.TextLaws.{writes_append}
 use Rattle.page_theory.specs.Codes.{codes_from, from_start, from_none, from_skip, from-take}
@@ -14,34 +18,35 @@ use Rattle.page_text.specs.PageParts.{Counted}
 
 -- ---- counting
 
-pub record Counting (A : List ℕ) (count code : ℕ) : Type 0 where
-  pub inside : code ≤ length A
-  pub few : count ≤ code
-  pub counts : count + length (codes_from A code) ≡ length (nonzero_codes A)
+abbrev pub some : ℕ → Bool
+some value = not (eqb value 0)
 
-pub counted_none : (A : List ℕ) → Counting A 0 0
-counted_none A = record { inside = omega arith; few = omega arith; counts = omega (arith, ap length (from_start A)) }
+module _ (A : List ℕ) where
+  abbrev one_if : ℕ → ℕ
+  one_if value = cond (some value) 1 0
 
-module _ {A : List ℕ} {count code : ℕ} (c : Counting A count code) (h : code < length A) where
-  pub counted_zero : {k : ℕ} → k ≡ count → at A code ≡ 0 → Counting A k (code + 1)
-  counted_zero q e = record { inside = omega arith; few = omega (arith, c.few); counts = omega (arith, c.counts, ap length (from_skip A code h e)) }
+  -- one entry more in front of what is counted
+  counted_more : (c : ℕ) → c < length A → length (codes_from A (c + 1)) ≡ count_by some (drop (c + 1) A) →
+      (v : ℕ) → at A c ≡ v → length (codes_from A c) ≡ count_by some (drop c A)
+  counted_more c h e zero f =
+      omega (arith, e, ap length (from_skip A c h f), sum_by-drop_more one_if A c 0 h, ap one_if f)
+  counted_more c h e (suc v) f =
+      let one : one_if (at A c) ≡ 1 = ap one_if f ∙ ap (λ (b : Bool). cond (not b) 1 0) (eqb-suc-zero v) in
+      omega (arith, e, ap length (from-take A c h (λ (z : at A c ≡ 0). omega arith)), sum_by-drop_more one_if A c 0 h)
 
-  pub counted-one : {k : ℕ} → k ≡ count + 1 → (at A code ≡ 0 → ⊥) → Counting A k (code + 1)
-  counted-one q d = record { inside = omega arith; few = omega (arith, c.few); counts = omega (arith, c.counts, ap length (from-take A code h d)) }
+  counted_from : (n c : ℕ) → c + n ≡ length A → length (codes_from A c) ≡ count_by some (drop c A)
+  counted_from zero c e = rw (from_none A c (omega arith), drop_of_length-le A {i = c} (omega arith))
+  counted_from (suc n) c e = counted_more c (omega arith) (counted_from n (c + 1) (omega arith)) (at A c) refl
 
-pub counted_all : {A : List ℕ} {count code : ℕ} → Counting A count code → length A ≤ code → Counted A count
-counted_all {A} {code = code} c h = record {
-  lines_is = omega (arith, c.counts, ap length (from_none A code h));
-  few = omega (arith, c.few, c.inside);
-}
+  pub counted : {lines : ℕ} → lines ≡ count_by some A → Counted A lines
+  counted e = record {
+    lines_is = e ∙ sym (sym (ap length (from_start A)) ∙ counted_from (length A) 0 (omega arith));
+    few = omega (arith, e, count_by-le-length some A);
+  }
 
-pub pages_zero : (k : ℕ) → k ≡ 0 → 1 ≡ pages_for k
+pub pages_are : (k : ℕ) → max (k / 50 + min 1 (k % 50)) 1 ≡ pages_for k
 unfolding pages_for
-pages_zero k e = omega arith
-
-pub pages_more : (k : ℕ) → (k ≡ 0 → ⊥) → (k + 49) / 50 ≡ pages_for k
-unfolding pages_for
-pages_more k d = omega arith
+pages_are k = omega arith
 
 -- ---- the rest of a line
 

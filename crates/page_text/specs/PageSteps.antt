@@ -12,7 +12,7 @@ use Rattle.text_pieces.specs.TextLaws.{writes_append, writes_none, writes_same, 
 use Rattle.definitions.specs.Pages.{filled, Layout, behind_column, line_of, heading, nonzero_codes, pages_for, page_count, on_page, lines_of, page_text, pages_text}
 use Rattle.nonzero_entries.specs.Entries.{ZerosAt, NextEntry}
 use Rattle.nonzero_entries.specs.EntryLaws.{skipped_zeros}
-use Rattle.page_theory.specs.Widths.{Fits, line-length, heading-length}
+use Rattle.page_theory.specs.Widths.{Fits, line-length}
 use Rattle.page_theory.specs.Codes.{codes_from, from_start, from_none, from_skip, from-take}
 use Rattle.page_theory.specs.Paging.{pages_to, to_none, to_more, to_all, to_length, pages_length, page_length, enough}
 use Rattle.page_text.specs.PageParts.{page_from, LinesRoom, LinesWritten, PagesRoom, Counted}

@@ -62,15 +62,7 @@ pub fn count_lines(table: &[u32]) -> u32
     requires { length table.now ≤ 2 ^ most_controls }
     ensures { Counted table.now result }
 {
-    let mut count = 0;
-    let mut code = 0;
-    while code < table.len() {
-        if table[code] != 0 {
-            count += 1;
-        }
-        code += 1;
-    }
-    count
+    table.iter().map(|value| u32::from(*value != 0)).sum()
 }
 
 // How many pages so many lines fill.
@@ -78,8 +70,5 @@ pub fn count_pages(lines: u32) -> u32
     requires { lines ≤ 2 ^ most_controls }
     ensures { result ≡ pages_for lines }
 {
-    if lines == 0 {
-        return 1;
-    }
-    (lines + 49) / PAGE_LINES
+    lines.div_ceil(PAGE_LINES).max(1)
 }

@@ -12,11 +12,13 @@ use Rattle.definitions.specs.Files.{Header, read_header, read_contents, read_bod
 use Rattle.definitions.specs.Show.{table_text, refusal_text, read_shown, text_of, shown, line}
 use Rattle.number_groups.specs.Stores.{sets_front}
 use Rattle.number_groups.specs.NumberAnswers.{Accepts}
-use Rattle.table_header.specs.HeaderAnswers.{opening_outcome}
+use Rattle.table_header.specs.HeaderAnswers.{opening_outcome, header_at}
 use Rattle.table_header.specs.Words.{refuses}
 use Rattle.table_header.specs.Headers.{header_few}
-use Rattle.table_header.specs.declared.OpeningAnswer.TheVariants as opening
-use Rattle.table_file.specs.Entries.{contents_number, header_at}
+use Rattle.refusals.specs.Words.{word}
+use Rattle.refusals.specs.declared.Refusal.{Refusal}
+use Rattle.std.specs.Prelude.{Ok, Err}
+use Rattle.table_file.specs.Entries.{contents_number}
 use Rattle.table_file.specs.Reading.{body_number, BodyRead, body_accepted}
 use Rattle.sparse_file.specs.Pairs.{Fills}
 use Rattle.text_pieces.specs.Text.{Writes}
@@ -82,14 +84,14 @@ module _ (bytes old : List ℕ) {r : _} (opened : opening_outcome bytes r ≡ re
   unfolding read_shown
   opened_as o e = ap (λ (p : Outcome Header). and_then p read_body) (ap (opening_outcome bytes) (sym e) ∙ opened)
 
-  pub no_header : {word next : ℕ} {last : List ℕ} → r ≡ opening.Refused word →
-      Writes old 0 (refusal_text word) next last → Shows bytes old next last
-  no_header e w = shows bytes old (ap text_of (opened_as (opening.Refused _) e)) w
+  pub no_header : {refusal : Refusal} {next : ℕ} {last : List ℕ} → r ≡ Err refusal →
+      Writes old 0 (refusal_text (word refusal)) next last → Shows bytes old next last
+  no_header e w = shows bytes old (ap text_of (opened_as (Err _) e)) w
 
-  module _ {o : _} (e : r ≡ opening.Opening o) where
-    pub few : o.n ≤ most_shown
+  module _ {o : _} (e : r ≡ Ok o) where
+    pub few : o.header.n ≤ most_shown
     few = header_few most_shown bytes (header_at bytes o) (sym (ap (opening_outcome bytes) (sym e) ∙ opened))
 
     pub behind_header_lem : {next : ℕ} {last : List ℕ} →
         Writes old 0 (text_of (read_body (header_at bytes o))) next last → Shows bytes old next last
-    behind_header_lem w = shows bytes old (ap text_of (opened_as (opening.Opening o) e)) w
+    behind_header_lem w = shows bytes old (ap text_of (opened_as (Ok o) e)) w

@@ -10,7 +10,8 @@ use Rattle.definitions.specs.Limits.{most_shown}
 use Rattle.definitions.specs.Outcomes.{Outcome, accepted, refused, and_then, unless}
 use Rattle.definitions.specs.Refusals.{word_if, modulus_word}
 use Rattle.definitions.specs.Groups.{Numeral, in_front, read_number}
-use Rattle.definitions.specs.Files.{Kind, full, sparse, First, Header, Entries, Pair, first_of, read_header, read_entries, leads_on, counts, read_gap, read_value, read_pair, read_pairs, zeros, read_contents, read_body, tail_word}
+use Rattle.definitions.specs.Files.{Kind, full, sparse, First, Header, Entries, Pair, first_of, read_header, read_entries, leads_on, counts}
+use Rattle.definitions.specs.Files.{read_gap, read_value, read_pair, read_pairs, zeros, read_contents, read_body, tail_word}
 use Rattle.definitions.specs.Show.{read_shown, shown, text_of}
 use Rattle.theory.specs.Tests.{below_or, and_true_left, and_true_right, zero_is_not_one}
 use Rattle.checks.specs.Words.{no_word}
@@ -311,7 +312,10 @@ body_start h left l =
 -- so many bytes decide what is printed
 pub shown_start : (k : ℕ) (bytes : List ℕ) → 2580 ≤ k → shown (take k bytes) ≡ shown bytes
 unfolding read_shown
-shown_start k bytes l = ap text_of (by_header (read_header most_shown (take k bytes)) (read_header most_shown bytes) (header_start most_shown k bytes (omega arith)) (λ h e. header_few most_shown bytes h e))
+shown_start k bytes l =
+    ap text_of
+    (by_header (read_header most_shown (take k bytes)) (read_header most_shown bytes) (header_start most_shown k bytes (omega arith))
+    (λ h e. header_few most_shown bytes h e))
   where
     by_header : (o p : Outcome Header) → Same cut_header 10 k o p → ((h : Header) → p ≡ accepted h → h.controls ≤ most_shown) → and_then o read_body ≡ and_then p read_body
     by_header o p (inl c) few =

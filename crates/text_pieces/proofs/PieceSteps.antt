@@ -1,74 +1,45 @@
 -- The steps of writing pieces of text.
 use mathlib.Core.Path.{◌≡◌, sym, ◌∙◌, ap, ap₂, subst}
+use Rattle.std.proofs.Common.{drop-drop}
+use Rattle.std.proofs.lemmas.List.Edits.{sets, sets-eq}
+use borrow.Rule.Slice.PartMut.{put_mid}
 use mathlib.Core.List.{List, [], ◌∷◌, ◌++◌, append_assoc, append-nil}
 use Prim.Native.Nat.{ℕ, suc, ◌+◌, ◌-◌, ◌/◌, ◌%◌, ◌^◌, ◌<◌, ◌≤◌}
-use native.Mathlib.Numerals.{add-one}
 use native.Mathlib.Nat.{pow-suc}
 use native.Mathlib.Omega.{arith}
-use lib.ListN.{length, take, set, get_or, length-append, replicate-append-replicate}
-use lib.Seq.{take-suc, take_all}
+use lib.ListN.{length, take, drop, set, length-append}
+use lib.Seq.{length-sets}
 use Rattle.definitions.specs.Show.{decimal}
-use Rattle.definitions.specs.Pages.{blanks, aligned}
+use Rattle.definitions.specs.Pages.{aligned}
 use Rattle.text_pieces.specs.Text.{Writes, ColumnFits, digits_left, digit_or_blank}
 use Rattle.text_pieces.specs.TextLaws.{decimal-last, decimal_more, decimal_left, aligned-last, aligned_left, nothing_left}
-use Rattle.text_pieces.specs.TextLaws.{writes_byte, writes_one, writes_none, writes_same, writes_front}
+use Rattle.text_pieces.specs.TextLaws.{writes_append, writes_none, writes_same, writes_front}
 
--- ---- some bytes
+-- ---- a run of bytes
 
-module _ (bytes : List ℕ) {at : ℕ} {old : List ℕ} where
-  pub byte_more : {out : List ℕ} {place i : ℕ} → i < length bytes → place < length out → Writes old at (take i bytes) place out →
-      Writes old at (take (i + 1) bytes) (place + 1) (set out place (get_or bytes i 0))
-  byte_more {i = i} h l w =
-      writes_same (sym (ap (λ (k : ℕ). take k bytes) (add-one i) ∙ take-suc bytes i 0 h)) (writes_byte (get_or bytes i 0) l w)
-
-  pub bytes_all : {out : List ℕ} {place i : ℕ} → length bytes ≤ i → Writes old at (take i bytes) place out → Writes old at bytes place out
-  bytes_all {i = i} h w = writes_same (take_all i bytes h) w
-
--- ---- blanks
-
-pub record Blank (at end : ℕ) (old out : List ℕ) (place : ℕ) : Type 0 where
-  pub from : at ≤ place
-  pub to : place ≤ end
-  pub writes : Writes old at (blanks (place - at)) place out
-
-pub blanks_none : (at end : ℕ) (old : List ℕ) → at ≤ end → end ≤ length old → Blank at end old old at
-blanks_none at end old h l =
-    let none : 0 ≡ at - at = omega arith in
-    record { from = omega arith; to = h; writes = writes_same (ap blanks none) (writes_none old at (omega arith)) }
-
-pub blanks_more : {at end place : ℕ} {old out : List ℕ} → place < end → place < length out → Blank at end old out place →
-    Blank at end old (set out place 32) (place + 1)
-blanks_more {at} {place = place} h l b =
-    let longer : place - at + 1 ≡ place + 1 - at = omega (arith, b.from) in
-    record {
-      from = omega (arith, b.from);
-      to = omega arith;
-      writes =
-          writes_same {a = blanks (place - at) ++ (32 ∷ [])} (replicate-append-replicate (place - at) 1 32 ∙ ap blanks longer)
-          (writes_byte 32 l b.writes);
-    }
-
-pub blanks_all : {at end place : ℕ} {old out : List ℕ} → end ≤ place → Blank at end old out place → Writes old at (blanks (end - at)) place out
-blanks_all {at} {end} {place} h b =
-    let same : place - at ≡ end - at = omega (arith, b.to) in
-    writes_same (ap blanks same) b.writes
+-- bytes stored as one part of the buffer are written
+pub run_written : (old : List ℕ) (at : ℕ) {k end : ℕ} {text part : List ℕ} → part ≡ text → k ≡ length text → end ≡ at + length text →
+    end ≤ length old → Writes old at text end (put_mid at k old part)
+run_written old at {k} {end} {text} {part} e f next h =
+    let all : put_mid at k old part ≡ sets old at text =
+    ap₂ (λ (j : ℕ) (ys : List ℕ). take at old ++ (ys ++ drop j (drop at old))) f e
+    ∙ ap (λ (zs : List ℕ). take at old ++ (text ++ zs)) (drop-drop (length text) at old)
+    ∙ sym (sets-eq text old at (omega arith) ∙ append_assoc (take at old) text (drop (at + length text) old)) in
+    record { next_is = next; text_is = all; within = omega (arith, ap length all, length-sets old at text) }
 
 -- ---- a number
 
-module _ (v at : ℕ) (old : List ℕ) where
+module _ (v : ℕ) where
   pub one_digit : v < 10 → length (decimal v) ≡ 1
   one_digit h = ap length (decimal-last v h)
-
-  pub digit_written : v < 10 → at < length old → Writes old at (decimal v) (at + 1) (set old at (48 + v))
-  digit_written h l = rw (decimal-last v h) (writes_one old at (48 + v) l)
 
   module _ (more : 10 ≤ v) (small : v < 2 ^ 32) where
     pub digits_above : length (decimal v) ≡ length (decimal (v / 10)) + 1
     digits_above = ap length (decimal_more v more small) ∙ length-append (decimal (v / 10)) ((48 + v % 10) ∷ [])
 
-    pub last_written : {mid : List ℕ} {last : ℕ} → last < length mid → Writes old at (decimal (v / 10)) last mid →
-        Writes old at (decimal v) (last + 1) (set mid last (48 + v % 10))
-    last_written l w = writes_same (sym (decimal_more v more small)) (writes_byte (48 + v % 10) l w)
+    pub last_written : {old mid out : List ℕ} {at last next : ℕ} → Writes old at (decimal (v / 10)) last mid →
+        Writes mid last ((48 + v % 10) ∷ []) next out → Writes old at (decimal v) next out
+    last_written above last = writes_same (sym (decimal_more v more small)) (writes_append above last)
 
 -- ---- a number aligned to the right
 
@@ -129,10 +100,10 @@ module _ (v w at : ℕ) {old : List ℕ} (small : v < 2 ^ 32) (f : ColumnFits v 
   pub tenth_fits : v / 10 < 10 ^ (at + w - 1 - at)
   tenth_fits = tenth (at + w - 1 - at) v (rw (sym one_less) f.digits)
 
-  pub all_aligned : {mid : List ℕ} → at + w - 1 < length mid → Writes old at (aligned (at + w - 1 - at) (digits_left (v / 10))) (at + w - 1) mid →
-      Writes old at (aligned w (decimal v)) (at + w - 1 + 1) (set mid (at + w - 1) (48 + v % 10))
-  all_aligned h left =
+  pub all_aligned : {mid out : List ℕ} {next : ℕ} → Writes old at (aligned (at + w - 1 - at) (digits_left (v / 10))) (at + w - 1) mid →
+      Writes mid (at + w - 1) ((48 + v % 10) ∷ []) next out → Writes old at (aligned w (decimal v)) next out
+  all_aligned left last =
       writes_same
       (sym (aligned-last (at + w - 1 - at) (digits_left (v / 10)) (48 + v % 10))
       ∙ ap₂ aligned (sym one_less) (sym (decimal_left v small)))
-      (writes_byte (48 + v % 10) h left)
+      (writes_append left last)

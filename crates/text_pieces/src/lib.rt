@@ -7,9 +7,9 @@ ghost use Rattle.definitions.specs.Show.{decimal};
 ghost use Rattle.definitions.specs.Pages.{blanks, aligned};
 ghost use Rattle.text_pieces.specs.Text.{Writes, ColumnFits, digits_left, digit_or_blank};
 
-pub const BLANK: u8 = 32;
+pub const BLANK: u8 = b' ';
 
-pub const LINE_FEED: u8 = 10;
+pub const LINE_FEED: u8 = b'\n';
 
 pub fn write_byte(byte: u8, at: usize, out: &mut [u8]) -> usize
     requires { at < length out.old }
@@ -23,14 +23,9 @@ pub fn write_bytes(bytes: &[u8], at: usize, out: &mut [u8]) -> usize
     requires { at + length bytes.now ≤ length out.old }
     ensures { Writes out.old at bytes.now result out.new }
 {
-    let mut place = at;
-    let mut i = 0;
-    while i < bytes.len() {
-        out[place] = bytes[i];
-        place += 1;
-        i += 1;
-    }
-    place
+    let end = at + bytes.len();
+    out[at..end].copy_from_slice(bytes);
+    end
 }
 
 // Blanks up to the place `end`.
@@ -40,12 +35,8 @@ pub fn write_blanks(at: usize, end: usize, out: &mut [u8]) -> usize
     ensures value { result ≡ end }
     ensures writes { Writes out.old at (blanks (end - at)) result out.new }
 {
-    let mut place = at;
-    while place < end {
-        out[place] = BLANK;
-        place += 1;
-    }
-    place
+    out[at..end].fill(BLANK);
+    end
 }
 
 // The digits above the last one are those of a tenth of the value.
@@ -54,12 +45,10 @@ pub fn write_decimal(value: u32, at: usize, out: &mut [u8]) -> usize
     ensures { Writes out.old at (decimal value) result out.new }
 {
     if value < 10 {
-        out[at] = 48 + (value as u8);
-        return at + 1;
+        return write_byte(b'0' + value as u8, at, out);
     }
     let last = write_decimal(value / 10, at, out);
-    out[last] = 48 + ((value % 10) as u8);
-    last + 1
+    write_byte(b'0' + (value % 10) as u8, last, out)
 }
 
 // The last digit of what is left of a number, and a blank once nothing is left.
@@ -69,7 +58,7 @@ fn digit_or_blank(rest: u32) -> u8
     if rest == 0 {
         return BLANK;
     }
-    48 + ((rest % 10) as u8)
+    b'0' + (rest % 10) as u8
 }
 
 // What is left of a number, aligned to the right before the place `end`, from its last digit on. The same number of
@@ -80,10 +69,8 @@ fn write_left(number: u32, at: usize, end: usize, out: &mut [u8])
     requires end_in_bounds { end ≤ length out.old }
     ensures { Writes out.old at (aligned (end - at) (digits_left number)) end out.new }
 {
-    let mut place = end;
     let mut rest = number;
-    while at < place {
-        place -= 1;
+    for place in (at..end).rev() {
         out[place] = digit_or_blank(rest);
         rest /= 10;
     }
@@ -96,6 +83,5 @@ pub fn write_aligned(value: u32, width: usize, at: usize, out: &mut [u8]) -> usi
 {
     let last = at + width - 1;
     write_left(value / 10, at, last, out);
-    out[last] = 48 + ((value % 10) as u8);
-    last + 1
+    write_byte(b'0' + (value % 10) as u8, last, out)
 }

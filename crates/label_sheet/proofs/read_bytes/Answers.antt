@@ -1,18 +1,19 @@
-use mathlib.Core.Path.{refl, sym, ◌∙◌}
-use Rattle.label_sheet.proofs.SheetSteps.{bytes_all, bytes_end, bytes_stop, bytes_more}
+use mathlib.Core.Path.{sym, subst}
+use native.Mathlib.Omega.{arith}
+use Rattle.number_groups.specs.NumberAnswers.{handed_on}
+use Rattle.label_sheet.specs.SheetAnswers.{LabelRead}
+use Rattle.label_sheet.proofs.SheetSteps.{bytes_start, bytes_stop, bytes_more, bytes_all}
 use Rattle.label_sheet.proofs.read_bytes.Goals as goal
 
-pub loop-left-init : goal.loop-left-init
-loop-left-init c = refl
+pub loop-i-init : goal.loop-i-init
+loop-i-init c = bytes_start _ _ _
 
-pub returns-then-sheet-place : goal.returns-then-sheet-place
-returns-then-sheet-place c = sym (c.loop-left.invariant ∙ bytes_end _ _ _ c.loop-left-test.true c.if-sheet-place.true)
+pub returns-in_err-name : goal.returns-in_err-name
+returns-in_err-name c =
+    subst (LabelRead _ _) (sym (handed_on _ c.from_residual.ensures.1)) (bytes_stop c.loop-i.invariant c.loop-i-test.true c.in_err-name.ensures)
 
-pub returns-then-word-ne0 : goal.returns-then-word-ne0
-returns-then-word-ne0 c = sym (c.loop-left.invariant ∙ bytes_stop _ _ _ c.loop-left-test.true c.if-sheet-place.false c.byte_word-word.ensures c.if-word-ne0.true)
-
-pub loop-left-preserved : goal.loop-left-preserved
-loop-left-preserved c = c.loop-left.invariant ∙ bytes_more _ _ _ c.loop-left-test.true c.if-sheet-place.false c.byte_word-word.ensures c.if-word-ne0.false
+pub loop-i-preserved : goal.loop-i-preserved
+loop-i-preserved c = bytes_more c.loop-i.invariant c.loop-i-test.true c.requires c.in_ok-name.ensures
 
 pub returns : goal.returns
-returns c = bytes_all _ _ c.loop-left-test.false ∙ sym c.loop-left.invariant
+returns c = bytes_all c.loop-i.invariant (omega arith)

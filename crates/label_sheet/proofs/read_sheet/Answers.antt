@@ -1,17 +1,19 @@
-use Rattle.label_sheet.proofs.SheetSteps.{SheetTested, sheet_stops, sheet_tested}
-use Rattle.label_sheet.proofs.ArraySteps.{sheet_number_lem, sheet_loaded}
+use mathlib.Core.Path.{◌∙◌, ap}
+use Rattle.number_groups.specs.NumberAnswers.{handed_on}
+use Rattle.label_sheet.specs.SheetAnswers.{sheet_outcome}
+use Rattle.label_sheet.proofs.ArraySteps.{sheet_stops, sheet_equal, sheet_accepts, sheet_ready}
 use Rattle.label_sheet.proofs.read_sheet.Goals as goal
 
-pub returns-then-word-ne0 : goal.returns-then-word-ne0
-returns-then-word-ne0 c = record { value = sheet_stops _ c.labels_word-word.ensures c.if-word-ne0.true; loaded = λ e. absurd (c.if-word-ne0.true e) }
+pub returns-in_err-labels : goal.returns-in_err-labels
+returns-in_err-labels c = ap sheet_outcome (handed_on _ c.from_residual.ensures.1) ∙ sheet_stops _ c.in_err-labels.ensures
 
-pub fill_labels-requires : goal.fill_labels-requires
-fill_labels-requires c =
-    let tested : SheetTested c.args.sheet.now = sheet_tested c.args.sheet.now c.labels_word-word.ensures c.if-word-ne0.false in let t = tested in record { labels_len = c.requires; tested = (t.labels, t.read) }
+pub returns-in_err-check_different : goal.returns-in_err-check_different
+returns-in_err-check_different c =
+    ap sheet_outcome (handed_on _ c.from_residual-in_err-check_different.ensures.1)
+    ∙ sheet_equal _ c.in_ok-labels.ensures _ c.in_err-check_different.ensures
 
-pub equal_word-requires : goal.equal_word-requires
-equal_word-requires c = c.fill_labels.ensures.held
+pub invariant_of-result : goal.invariant_of-result
+invariant_of-result c = record { ready = sheet_ready _ c.in_ok-labels.ensures c.in_ok-check_different.ensures }
 
 pub returns : goal.returns
-returns c =
-    let tested : SheetTested c.args.sheet.now = sheet_tested c.args.sheet.now c.labels_word-word.ensures c.if-word-ne0.false in let t = tested in record { value = sheet_number_lem _ _ t c.fill_labels.ensures c.equal_word.ensures; loaded = sheet_loaded _ _ t c.fill_labels.ensures c.equal_word.ensures }
+returns c = sheet_accepts _ c.in_ok-labels.ensures c.in_ok-check_different.ensures

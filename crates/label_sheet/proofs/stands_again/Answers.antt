@@ -1,25 +1,11 @@
-use Prim.Native.Nat.{◌-◌}
-use native.Mathlib.Omega.{arith}
-use Rattle.label_sheet.proofs.ArraySteps.{none_start, found_one, none_more, none_all}
+use Rattle.label_sheet.proofs.ArraySteps.{found_one, none_more, none_all}
 use Rattle.label_sheet.proofs.stands_again.Goals as goal
 
-pub overflow_add-other : goal.overflow_add-other
-overflow_add-other c = omega (arith, c.requires.control_lt_most_controls)
-
-pub loop-other-init : goal.loop-other-init
-loop-other-init c = none_start _ _ c.requires.control_lt_most_controls
-
-pub bounds-labels-control : goal.bounds-labels-control
-bounds-labels-control c = omega (arith, c.requires.held.long, c.requires.control_lt_most_controls)
-
-pub bounds-labels-other : goal.bounds-labels-other
-bounds-labels-other c = omega (arith, c.requires.held.long, c.loop-other-test.true)
-
-pub returns-then-labels-control : goal.returns-then-labels-control
-returns-then-labels-control c = found_one c.loop-other.invariant c.requires.held c.loop-other-test.true c.if-labels-control.true
+pub returns-then-eq : goal.returns-then-eq
+returns-then-eq c = found_one c.requires.held c.loop-other.invariant _ c.loop-other-test.true c.eq.ensures c.if-eq.true
 
 pub loop-other-preserved : goal.loop-other-preserved
-loop-other-preserved c = none_more c.loop-other.invariant c.requires.held c.loop-other-test.true c.if-labels-control.false
+loop-other-preserved c = none_more c.requires.held c.loop-other.invariant _ c.loop-other-test.true c.eq.ensures c.if-eq.false
 
 pub returns : goal.returns
-returns c = none_all c.loop-other.invariant c.requires.held c.loop-other-test.false
+returns c = none_all c.requires.held c.loop-other.invariant c.loop-other-test.false

@@ -1,10 +1,5 @@
-use Prim.Native.Nat.{◌-◌}
-use Rattle.definitions.specs.Limits.{most_controls}
 use Rattle.label_sheet.proofs.ArraySteps.{NoneSoFar}
 use Rattle.label_sheet.proofs.stands_again.Given as goal
 
 abbrev pub invariant-loop-other : goal.invariant-loop-other
 invariant-loop-other l = NoneSoFar l.labels l.control l.other
-
-abbrev pub decreases-loop-other : goal.decreases-loop-other
-decreases-loop-other l = most_controls - l.other

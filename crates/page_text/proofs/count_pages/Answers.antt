@@ -1,8 +1,7 @@
-use Rattle.page_text.proofs.PartSteps.{pages_zero, pages_more}
+use mathlib.Core.Path.{◌∙◌, ap}
+use Prim.Native.Nat.{ℕ, max}
+use Rattle.page_text.proofs.PartSteps.{pages_are}
 use Rattle.page_text.proofs.count_pages.Goals as goal
 
-pub returns-then-lines-eq0 : goal.returns-then-lines-eq0
-returns-then-lines-eq0 c = pages_zero _ c.if-lines-eq0.true
-
 pub returns : goal.returns
-returns c = pages_more _ c.if-lines-eq0.false
+returns c = c.max.ensures ∙ ap (λ (k : ℕ). max k 1) c.div_ceil.ensures ∙ pages_are _

@@ -5,11 +5,12 @@ use Rattle.page_theory.specs.Widths.{length-aligned, decimal_two}
 use Rattle.page_text.proofs.PartSteps.{behind_written}
 use Rattle.page_text.proofs.write_behind.Goals as goal
 
-pub write_byte-second-requires : goal.write_byte-second-requires
-write_byte-second-requires c = omega (arith, c.requires.at_in_bounds)
-
 pub write_aligned-third-requires : goal.write_aligned-third-requires
-write_aligned-third-requires c = record { some = omega arith; digits = c.requires.size_bound; room = writes_room 2 c.write_byte-second.ensures (omega (arith, c.requires.at_in_bounds)) }
+write_aligned-third-requires c = record {
+  some = omega arith;
+  digits = c.requires.size_bound;
+  room = writes_room 2 c.write_byte-second.ensures (omega (arith, c.requires.at_in_bounds));
+}
 
 pub write_byte-fourth-requires : goal.write_byte-fourth-requires
 write_byte-fourth-requires c = let size-wide = length-aligned 2 (decimal c.args.size) (decimal_two c.args.size c.requires.size_bound) in

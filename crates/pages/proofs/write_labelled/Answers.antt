@@ -1,16 +1,12 @@
-use mathlib.Core.Path.{refl}
-use Rattle.pages.proofs.CallSteps.{ready, as_loaded, not_loaded}
+use Rattle.std.proofs.lemmas.Result.{err_from_is_err_and}
+use Rattle.pages.proofs.CallSteps.{as_loaded, not_loaded}
 use Rattle.pages.proofs.write_labelled.Goals as goal
 
-pub read_sheet-word-requires : goal.read_sheet-word-requires
-read_sheet-word-requires c = refl
-
-pub returns-then-word-ne0 : goal.returns-then-word-ne0
-returns-then-word-ne0 c = rw c.refused.ensures
-    (not_loaded c.args.sheet.now c.args.table.now c.args.buffer.now c.read_sheet-word.ensures.value c.if-word-ne0.true)
-
-pub write_checked-requires : goal.write_checked-requires
-write_checked-requires c = record { ready = ready (c.read_sheet-word.ensures.loaded c.if-word-ne0.false); most_entries = c.requires }
+pub returns-in_err-labels : goal.returns-in_err-labels
+returns-in_err-labels c =
+    let w = not_loaded c.args.sheet.now c.args.table.now c.args.buffer.now c.in_err-labels.ensures in
+    let p = err_from_is_err_and c.from_residual.result c.from_residual.ensures.1 in
+    rw (p.1, p.2) w
 
 pub returns : goal.returns
-returns c = as_loaded (c.read_sheet-word.ensures.loaded c.if-word-ne0.false) c.args.table.now c.write_checked.ensures
+returns c = as_loaded c.args.sheet.now c.args.table.now c.args.buffer.now c.in_ok-labels.labels c.in_ok-labels.ensures c.write_checked.ensures

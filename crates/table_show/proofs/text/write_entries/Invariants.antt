@@ -1,10 +1,5 @@
-use Prim.Native.Nat.{◌-◌, ◌≤◌}
-use lib.ListN.{length}
 use Rattle.table_show.proofs.TextSteps.{LinesWritten}
 use Rattle.table_show.proofs.text.write_entries.Given as goal
 
 abbrev pub invariant-loop-code : goal.invariant-loop-code
-invariant-loop-code l = LinesWritten l.table l.at l.initial.out l.out l.place l.code × (l.code ≤ length l.table)
-
-abbrev pub decreases-loop-code : goal.decreases-loop-code
-decreases-loop-code l = length l.table - l.code
+invariant-loop-code l = LinesWritten l.table l.at l.initial.out l.out l.place l.code

@@ -1,6 +1,6 @@
 use native.Mathlib.Omega.{arith}
 use Rattle.sets.specs.Sizes.{size-le}
-use Rattle.text_pieces.specs.TextLaws.{writes_length}
+use Rattle.text_pieces.specs.TextLaws.{writes_room}
 use Rattle.table_show.specs.TextLaws.{field_few}
 use Rattle.table_show.proofs.TextSteps.{no_line, a_line}
 use Rattle.table_show.proofs.text.write_entry.Goals as goal
@@ -13,14 +13,12 @@ overflow_cast-size c = omega
     (arith, size-le 24 c.requires.code_lt_code_limit c.size-size.ensures)
 
 pub write_field-third-requires : goal.write_field-third-requires
-write_field-third-requires c = let write-field = c.write_field-second in
-    omega (arith, c.requires.at_in_bounds, write-field.ensures.next_is, field_few c.args.code 32, writes_length write-field.ensures)
+write_field-third-requires c = writes_room 11 c.write_field-second.ensures (omega (arith, c.requires.at_in_bounds, field_few c.args.code 32))
 
 pub write_field-requires : goal.write_field-requires
-write_field-requires c = let write-field = c.write_field-second in
-    let write-field2 = c.write_field-third in
-    omega
-    (arith, c.requires.at_in_bounds, write-field.ensures.next_is, field_few c.args.code 32, writes_length write-field.ensures, write-field2.ensures.next_is, field_few c.size-size.result.0 32, writes_length write-field2.ensures)
+write_field-requires c =
+    let second = writes_room 22 c.write_field-second.ensures (omega (arith, c.requires.at_in_bounds, field_few c.args.code 32)) in
+    writes_room 11 c.write_field-third.ensures (omega (arith, second, field_few c.size-size.result.0 32))
 
 pub returns : goal.returns
 returns c = a_line _ _ _ _
