@@ -15,14 +15,17 @@ ghost use Rattle.definitions.specs.Files.{full, sparse, header_number, header_co
 ghost use Rattle.definitions.specs.Pages.{pages_number, pages_written, pages_buffer};
 ghost use Rattle.theory.specs.Logarithm.{logarithm_of};
 ghost use Rattle.series_calls.specs.InverseTables.{inverse_table};
+ghost use Rattle.refusals.specs.Words.{word_of, value_of};
 ghost use Rattle.sps.specs.Packing.{with_number};
+
+use refusals::{Refusal, number};
 
 #[unsafe(no_mangle)]
 pub extern "C" fn sps_sum(n: u32, m: u32, a: &[u32], b: &[u32], res: &mut [u32]) -> u32
     ensures value { result ≡ sum_number n m a.now b.now (length res.old) }
     ensures res_after { res.new ≡ after result (sum_table n m a.now b.now) res.old }
 {
-    entrywise::sum(n, m, a, b, res)
+    number(entrywise::sum(n, m, a, b, res))
 }
 
 #[unsafe(no_mangle)]
@@ -30,7 +33,7 @@ pub extern "C" fn sps_difference(n: u32, m: u32, a: &[u32], b: &[u32], res: &mut
     ensures value { result ≡ sum_number n m a.now b.now (length res.old) }
     ensures res_after { res.new ≡ after result (difference_table n m a.now b.now) res.old }
 {
-    entrywise::difference(n, m, a, b, res)
+    number(entrywise::difference(n, m, a, b, res))
 }
 
 #[unsafe(no_mangle)]
@@ -38,14 +41,17 @@ pub extern "C" fn sps_binomial_product(n: u32, m: u32, f: &[u32], g: &[u32], res
     ensures value { result ≡ binomial_number n m f.now g.now (length res.old) }
     ensures res_after { res.new ≡ after result (binomial_row n m f.now g.now) res.old }
 {
-    entrywise::binomial_product(n, m, f, g, res)
+    number(entrywise::binomial_product(n, m, f, g, res))
 }
 
-// The value in the upper half, the number in the lower.
-fn with_number(value: u32, number: u32) -> u64
-    ensures { result ≡ with_number value number }
+// An answer as one number for C: the value in the upper half, 0 beside a refusal, and the number in the lower.
+fn packed_answer(answer: Result<u32, Refusal>) -> u64
+    ensures { result ≡ with_number (value_of answer) (word_of answer) }
 {
-    (value as u64) * 4294967296 + (number as u64)
+    match answer {
+        Ok(value) => (value as u64) * 4294967296,
+        Err(refusal) => u32::from(refusal) as u64,
+    }
 }
 
 #[unsafe(no_mangle)]
@@ -63,8 +69,7 @@ pub extern "C" fn sps_subset_product(
         (subset_table n m a.now b.now) res.old }
     ensures pad_after { pad.new ≡ pad_after (product_number n m a.now b.now (length res.old) (length pad.old)) n pad.old }
 {
-    let product = subset_product::subset_product(n, m, a, b, res, pad);
-    with_number(product.ceiling, product.number)
+    packed_answer(subset_product::subset_product(n, m, a, b, res, pad))
 }
 
 #[unsafe(no_mangle)]
@@ -80,7 +85,7 @@ pub extern "C" fn sps_union_product(
     ensures res_after { res.new ≡ after result (union_table n m a.now b.now) res.old }
     ensures pad_after { pad.new ≡ pad_after result n pad.old }
 {
-    transforms::union_product(n, m, a, b, res, pad)
+    number(transforms::union_product(n, m, a, b, res, pad))
 }
 
 #[unsafe(no_mangle)]
@@ -96,7 +101,7 @@ pub extern "C" fn sps_xor_product(
     ensures res_after { res.new ≡ after result (xor_table n m a.now b.now) res.old }
     ensures pad_after { pad.new ≡ pad_after result n pad.old }
 {
-    transforms::xor_product(n, m, a, b, res, pad)
+    number(transforms::xor_product(n, m, a, b, res, pad))
 }
 
 #[unsafe(no_mangle)]
@@ -111,7 +116,7 @@ pub extern "C" fn sps_exponential(
     ensures res_after { res.new ≡ after result (exponential_table n m a.now) res.old }
     ensures pad_after { pad.new ≡ pad_after result n pad.old }
 {
-    series_calls::exponential(n, m, a, res, pad)
+    number(series_calls::exponential(n, m, a, res, pad))
 }
 
 #[unsafe(no_mangle)]
@@ -121,7 +126,7 @@ pub extern "C" fn sps_logarithm(n: u32, m: u32, a: &[u32], res: &mut [u32], pad:
     ensures logarithm { result ≡ 0 → IsLogarithm n m a.now res.new }
     ensures pad_after { pad.new ≡ pad_after result n pad.old }
 {
-    series_calls::logarithm(n, m, a, res, pad)
+    number(series_calls::logarithm(n, m, a, res, pad))
 }
 
 #[unsafe(no_mangle)]
@@ -137,7 +142,7 @@ pub extern "C" fn sps_composition(
     ensures res_after { res.new ≡ after result (composition_table n m f.now a.now) res.old }
     ensures pad_after { pad.new ≡ pad_after result n pad.old }
 {
-    series_calls::composition(n, m, a, f, res, pad)
+    number(series_calls::composition(n, m, a, f, res, pad))
 }
 
 #[unsafe(no_mangle)]
@@ -147,7 +152,7 @@ pub extern "C" fn sps_inverse(n: u32, m: u32, a: &[u32], res: &mut [u32], pad: &
     ensures inverse { result ≡ 0 → IsInverse n m a.now res.new }
     ensures pad_after { pad.new ≡ pad_after result n pad.old }
 {
-    series_calls::inverse(n, m, a, res, pad)
+    number(series_calls::inverse(n, m, a, res, pad))
 }
 
 #[unsafe(no_mangle)]
@@ -163,7 +168,7 @@ pub extern "C" fn sps_projection(
     ensures res_after { res.new ≡ after result (projection_row n m a.now b.now) res.old }
     ensures pad_after { pad.new ≡ pad_after result n pad.old }
 {
-    projection_calls::projection(n, m, a, b, res, pad)
+    number(projection_calls::projection(n, m, a, b, res, pad))
 }
 
 #[unsafe(no_mangle)]
@@ -179,7 +184,7 @@ pub extern "C" fn sps_board_fresh(
     ensures e_after { e.new ≡ after result (fresh_board n).exponential e.old }
     ensures i_after { i.new ≡ after result (fresh_board n).inverse i.old }
 {
-    board_calls::board_fresh(n, m, a, e, i)
+    number(board_calls::board_fresh(n, m, a, e, i))
 }
 
 #[unsafe(no_mangle)]
@@ -197,7 +202,7 @@ pub extern "C" fn sps_board_add(
     ensures e_after { e.new ≡ after result (raised_over n m set weight e.old) e.old }
     ensures i_after { i.new ≡ after result (lowered_over n m set weight i.old) i.old }
 {
-    board_calls::board_add(n, m, set, weight, a, e, i)
+    number(board_calls::board_add(n, m, set, weight, a, e, i))
 }
 
 #[unsafe(no_mangle)]
@@ -215,7 +220,7 @@ pub extern "C" fn sps_board_take(
     ensures e_after { e.new ≡ after result (raised_over n m set (lacking m weight) e.old) e.old }
     ensures i_after { i.new ≡ after result (raised_over n m set weight i.old) i.old }
 {
-    board_calls::board_take(n, m, set, weight, a, e, i)
+    number(board_calls::board_take(n, m, set, weight, a, e, i))
 }
 
 #[unsafe(no_mangle)]
@@ -234,7 +239,7 @@ pub extern "C" fn sps_recipe(
     ensures res_after { (read : Outcome (Tree sum)) → ReadAs line.now read → (by : Choice n m) → res.new ≡ recipe_result n m read (lettered a.now b.now c.now d.now) by res.old pad.old }
     ensures pad_after { (read : Outcome (Tree sum)) → ReadAs line.now read → pad.new ≡ recipe_pad n m read (lettered a.now b.now c.now d.now) (length res.old) pad.old }
 {
-    recipes::recipe(n, m, line, a, b, c, d, res, pad)
+    number(recipes::recipe(n, m, line, a, b, c, d, res, pad))
 }
 
 #[unsafe(no_mangle)]
@@ -257,8 +262,7 @@ pub extern "C" fn sps_write_table(n: u32, m: u32, table: &[u32], buffer: &mut [u
     ensures value { result ≡ with_number (written_count full n m table.now (length buffer.old)) (writer_number full n m table.now (length buffer.old)) }
     ensures buffer_after { buffer.new ≡ written_buffer full n m table.now buffer.old }
 {
-    let written = table_writer::write_table(n, m, table, buffer);
-    with_number(written.count, written.number)
+    packed_answer(table_writer::write_table(n, m, table, buffer))
 }
 
 #[unsafe(no_mangle)]
@@ -266,8 +270,7 @@ pub extern "C" fn sps_write_sparse(n: u32, m: u32, table: &[u32], buffer: &mut [
     ensures value { result ≡ with_number (written_count sparse n m table.now (length buffer.old)) (writer_number sparse n m table.now (length buffer.old)) }
     ensures buffer_after { buffer.new ≡ written_buffer sparse n m table.now buffer.old }
 {
-    let written = sparse_writer::write_sparse(n, m, table, buffer);
-    with_number(written.count, written.number)
+    packed_answer(sparse_writer::write_sparse(n, m, table, buffer))
 }
 
 #[unsafe(no_mangle)]
@@ -281,6 +284,5 @@ pub extern "C" fn sps_write_pages(
     ensures value { result ≡ with_number (pages_written n m table.now labels.now (length buffer.old)) (pages_number n m table.now labels.now (length buffer.old)) }
     ensures buffer_after { buffer.new ≡ pages_buffer n m table.now labels.now buffer.old }
 {
-    let written = pages::write_pages(n, m, table, labels, buffer);
-    with_number(written.count, written.number)
+    packed_answer(pages::write_pages(n, m, table, labels, buffer))
 }
