@@ -1,63 +1,62 @@
-// Each call by the first byte of its word, for programs that read which one to run.
+// The call that a line names, made on what a program lends.
 #![tactic(auto)]
 
-// What stands for the number of a call that there is not, here and in the answer.
-const NONE: u32 = 4294967295;
+ghost use Rattle.std.specs.Prelude.{◌≡◌, MatchResult, IsNone};
 
-pub const NO_CALL: u64 = 4294967295;
+mod call;
 
-fn wide(x: u32) -> u64 {
-    x as u64
+pub use call::{Answer, Call, UnknownCall};
+use lines::Case;
+
+// What a case comes to: the answer of its call, the two lists that the call read, and what it left in the result and the pad.
+#[derive(Clone, Copy, Debug)]
+pub struct Outcome<'a> {
+    pub answer: Result<Answer, UnknownCall>,
+    pub a: &'a [u32],
+    pub b: &'a [u32],
+    pub res: &'a [u32],
+    pub pad: &'a [u32],
 }
 
-// Sum and difference of tables, binomial product of rows.
-fn entry_by_entry(call: u8, n: u32, m: u32, a: &[u32], b: &[u32], res: &mut [u32]) -> u32 {
-    match call {
-        b'+' => entrywise::sum(n, m, a, b, res),
-        b'-' => entrywise::difference(n, m, a, b, res),
-        b'b' => entrywise::binomial_product(n, m, a, b, res),
-        _ => NONE,
+impl Outcome<'_> {
+    // The number that a program prints; where there is no such call the largest, which no call answers.
+    pub fn number(&self) -> u32
+        ensures { MatchResult self.now.answer (λ answer. result ≡ answer.number) (λ _. result ≡ 4294967295) }
+    {
+        self.answer.map_or(u32::MAX, |answer| answer.number)
+    }
+
+    // The ceiling of its result, which only the subset product answers.
+    pub fn ceiling(&self) -> Option<u32>
+        ensures { MatchResult self.now.answer (λ answer. result ≡ answer.ceiling) (λ _. IsNone result) }
+    {
+        self.answer.ok().and_then(|answer| answer.ceiling)
     }
 }
 
-// Union and xor product and projection of tables, composition of a table and a row.
-fn of_two(call: u8, n: u32, m: u32, a: &[u32], b: &[u32], res: &mut [u32], pad: &mut [u32]) -> u32 {
-    match call {
-        b'u' => transforms::union_product(n, m, a, b, res, pad),
-        b'x' => transforms::xor_product(n, m, a, b, res, pad),
-        b'c' => series_calls::composition(n, m, a, b, res, pad),
-        b'p' => projection_calls::projection(n, m, a, b, res, pad),
-        _ => entry_by_entry(call, n, m, a, b, res),
-    }
+fn named(case: Case) -> Result<Call, UnknownCall> {
+    Call::try_from(case.call().ok_or(UnknownCall)?)
 }
 
-fn of_one(call: u8, n: u32, m: u32, a: &[u32], b: &[u32], res: &mut [u32], pad: &mut [u32]) -> u32 {
-    match call {
-        b'e' => series_calls::exponential(n, m, a, res, pad),
-        b'l' => series_calls::logarithm(n, m, a, res, pad),
-        b'i' => series_calls::inverse(n, m, a, res, pad),
-        _ => of_two(call, n, m, a, b, res, pad),
-    }
-}
-
-fn subset(n: u32, m: u32, a: &[u32], b: &[u32], res: &mut [u32], pad: &mut [u32]) -> u64 {
-    let product = subset_product::subset_product(n, m, a, b, res, pad);
-    wide(product.ceiling) << 32 | wide(product.number)
-}
-
-// Answers ceiling * 2^32 + number, as the C interface does; the ceiling is 0 for all but the subset product.
-pub fn run(
-    call: u8,
-    n: u32,
-    m: u32,
-    a: &[u32],
-    b: &[u32],
-    res: &mut [u32],
-    pad: &mut [u32],
-) -> u64 {
-    if call == b's' {
-        subset(n, m, a, b, res, pad)
-    } else {
-        wide(of_one(call, n, m, a, b, res, pad))
+// The lengths of the result and the pad are those of the case, cut to what there is to lend.
+pub fn run<'a>(
+    case: Case,
+    a: &'a [u32],
+    b: &'a [u32],
+    res: &'a mut [u32],
+    pad: &'a mut [u32],
+) -> Outcome<'a> {
+    let res = lines::first(res, case.result_length());
+    let pad = lines::first(pad, case.pad_length());
+    let answer = match named(case) {
+        Ok(call) => Ok(call.run(case.controls(), case.modulus(), a, b, res, pad)),
+        Err(UnknownCall) => Err(UnknownCall),
+    };
+    Outcome {
+        answer,
+        a,
+        b,
+        res,
+        pad,
     }
 }

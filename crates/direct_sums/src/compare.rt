@@ -1,25 +1,46 @@
 // A call's result next to what it is compared with, which goes by the first byte of its word.
-use plain_sums::{add_up, differing};
+use calls::Outcome;
+use lines::Case;
+use plain_sums::{Sum, add_up, differing};
 
-// A sum over pairs or partitions. An inverse is multiplied by its table, a logarithm put back by its exponential, and a large
-// exponential in what it must fulfil.
-fn sums_of(how: u8, m: u32, a: &[u32], b: &[u32], res: &[u32], sums: &mut [u32]) {
-    match how {
-        b't' => add_up(b'd', m, a, res, sums),
-        b'e' => add_up(b'p', m, res, b, sums),
-        b'f' => add_up(b'l', m, res, b, sums),
-        b'l' => add_up(b'l', m, a, res, sums),
-        _ => add_up(how, m, a, b, sums),
-    }
+// A sum over two lists, and the list that it must be.
+struct Comparison<'a> {
+    sum: Sum,
+    a: &'a [u32],
+    b: &'a [u32],
+    wanted: &'a [u32],
 }
 
-// How many entries differ. What is put back is compared with the second table: the unit, or the one that it came from.
-pub fn directly(how: u8, m: u32, a: &[u32], b: &[u32], res: &[u32]) -> usize {
-    let mut room = [0u32; 4096];
-    let sums = lines::first(&mut room, res.len());
-    sums_of(how, m, a, b, res, sums);
-    match how {
-        b't' | b'e' | b'f' => differing(sums, b),
-        _ => differing(sums, res),
+// A sum over pairs or partitions is the result. An inverse is multiplied by its table, a logarithm put back by its exponential,
+// and a large exponential in what it must fulfil. What is put back is compared with the second table: the unit, or the one that
+// it came from.
+fn comparison_by<'a>(how: u8, outcome: &Outcome<'a>) -> Option<Comparison<'a>> {
+    let Outcome { a, b, res, .. } = *outcome;
+    let (sum, a, b, wanted) = match how {
+        b'd' => (Sum::DisjointPairs, a, b, res),
+        b'u' => (Sum::Unions, a, b, res),
+        b'x' => (Sum::SymmetricDifferences, a, b, res),
+        b'p' => (Sum::Partitions, a, b, res),
+        b'b' => (Sum::Compositions, a, b, res),
+        b's' => (Sum::Projections, a, b, res),
+        b'l' => (Sum::LowestBlocks, a, res, res),
+        b't' => (Sum::DisjointPairs, a, res, b),
+        b'e' => (Sum::Partitions, res, b, b),
+        b'f' => (Sum::LowestBlocks, res, b, b),
+        _ => return None,
+    };
+    Some(Comparison { sum, a, b, wanted })
+}
+
+// How many entries differ; with a word that begins otherwise, from zeros.
+pub fn directly(case: Case, outcome: &Outcome) -> usize {
+    let mut room = [0; 4096];
+    let sums = lines::first(&mut room, outcome.res.len());
+    match case.initial(8).and_then(|how| comparison_by(how, outcome)) {
+        Some(Comparison { sum, a, b, wanted }) => {
+            add_up(sum, case.modulus(), a, b, sums);
+            differing(sums, wanted)
+        }
+        None => differing(sums, outcome.res),
     }
 }

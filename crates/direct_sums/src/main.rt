@@ -12,37 +12,11 @@
 mod compare;
 mod report;
 
-use lines::value_at;
+use lines::{Case, value_at};
 use std::io;
 
 // What a result and a pad hold when they are lent.
-const LENT: u32 = 4294967295;
-
-// False if there is no such call.
-fn run(
-    rt: &impl Print,
-    line: &[u8],
-    a: &[u32],
-    b: &[u32],
-    res: &mut [u32],
-    pad: &mut [u32],
-) -> io::Result<bool> {
-    let n = lines::controls(line);
-    let m = lines::modulus(line);
-    let returned = calls::run(lines::call(line), n, m, a, b, res, pad);
-    report::comparison(rt, line, returned, a, b, res)?;
-    report::pad(rt, pad)?;
-    Ok(returned != calls::NO_CALL)
-}
-
-// The lengths are cut to what there is to lend, enough for 12 controls.
-fn lent(rt: &impl Print, line: &[u8], a: &[u32], b: &[u32]) -> io::Result<bool> {
-    let mut table = [LENT; 4096];
-    let mut room = [LENT; 114691];
-    let result = lines::first(&mut table, lines::result_length(line));
-    let pad = lines::first(&mut room, lines::pad_length(line));
-    run(rt, line, a, b, result, pad)
-}
+const LENT: u32 = u32::MAX;
 
 // The random table that a text describes.
 fn random<'a, 'b>(text: &'b [u8], m: u32, room: &'a mut [u32]) -> &'a mut [u32] {
@@ -51,26 +25,21 @@ fn random<'a, 'b>(text: &'b [u8], m: u32, room: &'a mut [u32]) -> &'a mut [u32] 
     lines::first(room, lines::length_in(lines::part(text, b' ', 0)))
 }
 
-fn case(rt: &impl Print, line: &[u8]) -> io::Result<bool> {
-    let mut first = [0u32; 4096];
-    let mut second = [0u32; 4096];
-    let m = lines::modulus(line);
-    let a = random(lines::first_list(line), m, &mut first);
-    let b = random(lines::second_list(line), m, &mut second);
-    lent(rt, line, a, b)
-}
-
-fn cases(rt: &impl Print, input: &[u8]) -> io::Result<()> {
-    for k in 0..lines::marks(input, b'\n') {
-        if !case(rt, lines::part(input, b'\n', k))? {
-            return lines::text(rt, b"no such call\n");
-        }
-    }
-    Ok(())
+// Makes the call that a case names, and reports its outcome; false if there is no such call. What is lent is enough for 12
+// controls.
+fn case(rt: &impl Print, case: Case) -> io::Result<bool> {
+    let mut first = [0; 4096];
+    let mut second = [0; 4096];
+    let mut res = [LENT; 4096];
+    let mut pad = [LENT; 114691];
+    let m = case.modulus();
+    let a = random(case.first_list(), m, &mut first);
+    let b = random(case.second_list(), m, &mut second);
+    let outcome = calls::run(case, a, b, &mut res, &mut pad);
+    report::comparison(rt, case, &outcome)?;
+    Ok(outcome.answer.is_ok())
 }
 
 fn main(rt: HostRuntime) -> io::Result<()> {
-    let mut input = [0u8; 16384];
-    let length = lines::fill(&mut rt.reader(), &mut input)?;
-    cases(&rt, &input[..length])
+    lines::each_case(&rt, |line| case(&rt, line))
 }

@@ -1,128 +1,49 @@
 // The parts of a text between marks, and the numbers in them. Every text reads as something, so that no line stops a program
 // but one that it does not want.
-ghost use Rattle.std.specs.Prelude.{◌≤◌, length, ◌≡◌};
+ghost use Rattle.std.specs.Prelude.{◌≤◌, length};
 
 // How many of the bytes are the mark.
 pub fn marks(text: &[u8], mark: u8) -> usize
     ensures { result ≤ length text.now }
 {
-    let mut found: usize = 0;
-    let mut i = 0;
-    while i < text.len() {
-        if text[i] == mark {
-            found += 1;
-        }
-        i += 1;
-    }
-    found
-}
-
-// Where part k starts: behind k marks, or at the end where there are fewer.
-fn start(text: &[u8], mark: u8, k: usize) -> usize
-    ensures { result ≤ length text.now }
-{
-    let mut left = k;
-    let mut i = 0;
-    while i < text.len() {
-        if left == 0 {
-            return i;
-        }
-        if text[i] == mark {
-            left -= 1;
-        }
-        i += 1;
-    }
-    i
-}
-
-// The place of the first mark from here on, or the end.
-fn end(text: &[u8], mark: u8, from: usize) -> usize
-    requires { from ≤ length text.now }
-    ensures { (from ≤ result) × (result ≤ length text.now) }
-{
-    let mut i = from;
-    while i < text.len() {
-        if text[i] == mark {
-            return i;
-        }
-        i += 1;
-    }
-    i
+    text.iter().filter(|b| **b == mark).count()
 }
 
 // Part k of a text, from 0; an empty one where there are fewer.
 pub fn part(text: &[u8], mark: u8, k: usize) -> &[u8] {
-    let from = start(text, mark, k);
-    let to = end(text, mark, from);
-    &text[from..to]
+    text.split(|b| *b == mark).nth(k).unwrap_or(&[])
 }
 
-fn wide(x: u8) -> u64
-    ensures { result ≡ x }
-{
-    x as u64
+// The number x with one more digit, if that is a digit, and the number still one of 32 bits.
+fn with_digit(x: u32, byte: u8) -> Option<u32> {
+    x.checked_mul(10)?
+        .checked_add(char::from(byte).to_digit(10)?)
 }
 
-// What stands for no number of 32 bits.
-const NO_NUMBER: u64 = 4294967296;
-
-// The number x with one more digit.
-fn with_digit(x: u64, byte: u8) -> u64 {
-    if byte < b'0' {
-        return NO_NUMBER;
-    }
-    if b'9' < byte {
-        return NO_NUMBER;
-    }
-    if NO_NUMBER <= x {
-        return NO_NUMBER;
-    }
-    x * 10 + wide(byte - b'0')
-}
-
-// The number that a text spells; 0 for none.
-fn spelled(text: &[u8]) -> u64 {
-    let mut x = 0;
-    let mut i = 0;
-    while i < text.len() {
-        x = with_digit(x, text[i]);
-        i += 1;
-    }
-    x
-}
-
-// The same, or another where it is no number of 32 bits.
-pub fn value_or(text: &[u8], other: u32) -> u32 {
-    let x = spelled(text);
-    if x < NO_NUMBER { x as u32 } else { other }
+// The number of 32 bits that a text spells in digits, 0 for no digit at all.
+pub(crate) fn number(text: &[u8]) -> Option<u32> {
+    text.iter().try_fold(0, |x, byte| with_digit(x, *byte))
 }
 
 // What is no number reads as the largest, which is no residue.
 pub fn value(text: &[u8]) -> u32 {
-    value_or(text, 4294967295)
-}
-
-fn size(x: u32) -> usize {
-    x as usize
+    number(text).unwrap_or(u32::MAX)
 }
 
 // The same as a length.
 pub fn length_in(text: &[u8]) -> usize {
-    size(value(text))
+    value(text) as usize
 }
 
 // The first numbers of a list; all of them where it is not so long.
 pub fn first(list: &mut [u32], count: usize) -> &mut [u32] {
-    if count <= list.len() {
-        &mut list[0..count]
-    } else {
-        list
-    }
+    let count = count.min(list.len());
+    &mut list[..count]
 }
 
 // How many numbers a text has, with one blank between.
 fn words(text: &[u8]) -> usize {
-    if text.len() == 0 {
+    if text.is_empty() {
         0
     } else {
         marks(text, b' ') + 1
@@ -134,16 +55,10 @@ pub fn value_at(text: &[u8], k: usize) -> u32 {
     value(part(text, b' ', k))
 }
 
-fn read(text: &[u8], list: &mut [u32]) {
-    let mut k = 0;
-    while k < list.len() {
-        list[k] = value_at(text, k);
-        k += 1;
-    }
-}
-
 // Reads numbers into a list, and answers the part that they fill; they are cut off where it is full.
 pub fn numbers<'a, 'b>(text: &'b [u8], list: &'a mut [u32]) -> &'a mut [u32] {
-    read(text, list);
+    for (k, x) in list.iter_mut().enumerate() {
+        *x = value_at(text, k);
+    }
     first(list, words(text))
 }

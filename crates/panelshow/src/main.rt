@@ -8,7 +8,5 @@ fn main(rt: HostRuntime) -> io::Result<()> {
     let mut input = [0u8; 4096];
     let count = lines::fill(&mut rt.reader(), &mut input)?;
     let shown = table_show::show(&input[..count]);
-    let text = shown.bytes;
-    let length = shown.length;
-    rt.write_all(&text[..length])
+    rt.write_all(shown.as_slice())
 }

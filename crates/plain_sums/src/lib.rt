@@ -5,8 +5,8 @@ mod numbers;
 mod pairs;
 mod partitions;
 mod random;
-mod words;
+mod sums;
 
 pub use numbers::{ceiling, differing};
 pub use random::fill_from;
-pub use words::add_up;
+pub use sums::{Sum, add_up};

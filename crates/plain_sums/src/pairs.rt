@@ -1,57 +1,51 @@
 // Sums over all pairs of sets, each at the set that joins them.
-use crate::numbers::{entry, plus, set_entry, times};
-
-// What stands for the code of no set.
-const NO_SET: usize = 18446744073709551615;
+use crate::numbers::{plus, set_entry, times};
 
 // The union of disjoint sets.
-fn disjoint(l: usize, r: usize) -> usize {
-    if l & r == 0 { l | r } else { NO_SET }
+pub fn disjoint(l: usize, r: usize) -> Option<usize> {
+    if l & r == 0 { Some(l | r) } else { None }
 }
 
 // The union of disjoint sets, where l holds its lowest control.
-fn with_lowest(l: usize, r: usize) -> usize {
-    if usize::trailing_zeros(l) < usize::trailing_zeros(r) {
+fn with_lowest(l: usize, r: usize) -> Option<usize> {
+    if l.trailing_zeros() < r.trailing_zeros() {
         disjoint(l, r)
     } else {
-        NO_SET
+        None
     }
 }
 
-// By a letter: disjoint pairs, those where l holds the lowest control, symmetric differences, or unions.
-fn joined(how: u8, l: usize, r: usize) -> usize {
-    match how {
-        b'd' => disjoint(l, r),
-        b'l' => with_lowest(l, r),
-        b'x' => l ^ r,
-        _ => l | r,
+// Adds x times all of b, each product at the set that is joined with that of its entry, if any.
+fn add_row<F: Fn(usize) -> Option<usize>>(join: F, x: u32, b: &[u32], m: u32, res: &mut [u32])
+    requires { F.IsAlwaysCallable join }
+{
+    for (r, y) in b.iter().enumerate() {
+        if let Some(s) = join(r)
+            && let Some(sum) = res.get_mut(s)
+        {
+            *sum = plus(*sum, times(x, *y, m), m);
+        }
     }
 }
 
-// Adds a[l] times all of b.
-fn add_row(how: u8, a: &[u32], b: &[u32], l: usize, m: u32, res: &mut [u32]) {
-    let mut r = 0;
-    while r < b.len() {
-        let s = joined(how, l, r);
-        let x = times(entry(a, l), entry(b, r), m);
-        let sum = plus(entry(res, s), x, m);
-        set_entry(res, s, sum);
-        r += 1;
-    }
-}
-
-// Into a result that starts out as zeros.
-pub fn pair_table(how: u8, a: &[u32], b: &[u32], m: u32, res: &mut [u32]) {
-    let mut l = 0;
-    while l < a.len() {
-        add_row(how, a, b, l, m, res);
-        l += 1;
+// Into a result that starts out as zeros. No pair is joined to more than one set; some to none.
+pub fn pair_table<F: Fn(usize, usize) -> Option<usize>>(
+    join: F,
+    a: &[u32],
+    b: &[u32],
+    m: u32,
+    res: &mut [u32],
+)
+    requires { F.IsAlwaysCallable join }
+{
+    for (l, x) in a.iter().enumerate() {
+        add_row(|r| join(l, r), *x, b, m, res);
     }
 }
 
 // What e must be to be the exponential of a: each entry of a set is the sum over the blocks that hold its lowest control, of
 // the block's entry times that of the rest. The empty set has one partition.
 pub fn exponential_by_lowest(a: &[u32], e: &[u32], m: u32, res: &mut [u32]) {
-    pair_table(b'l', a, e, m, res);
+    pair_table(with_lowest, a, e, m, res);
     set_entry(res, 0, 1);
 }

@@ -3,11 +3,7 @@ use crate::numbers::{entry, plus, set_entry, times};
 
 // Whether t is a subset of s that holds its lowest control.
 fn is_block(t: usize, s: usize) -> bool {
-    if t & s == t {
-        usize::trailing_zeros(t) == usize::trailing_zeros(s)
-    } else {
-        false
-    }
+    t & s == t && t.trailing_zeros() == s.trailing_zeros()
 }
 
 // The sum over the partitions of what is left, each product also multiplied by what was taken from the blocks before.
@@ -16,28 +12,23 @@ fn over_rest(a: &[u32], f: &[u32], m: u32, left: usize, taken: u32) -> u32 {
     if left == 0 {
         return times(taken, entry(f, 0), m);
     }
-    if f.len() == 0 {
+    let Some((_, later)) = f.split_first() else {
         return 0;
-    }
-    let later = &f[1..];
-    let mut sum: u32 = 0;
-    let mut t = left;
-    while 0 < t {
-        if is_block(t, left) {
-            let rest = over_rest(a, later, m, left - t, times(taken, entry(a, t), m));
-            sum = plus(sum, rest, m);
+    };
+    let mut sum = 0;
+    for rest in 0..left {
+        let block = left - rest;
+        if is_block(block, left) {
+            let products = over_rest(a, later, m, rest, times(taken, entry(a, block), m));
+            sum = plus(sum, products, m);
         }
-        t -= 1;
     }
     sum
 }
 
 pub fn composition_table(a: &[u32], f: &[u32], m: u32, res: &mut [u32]) {
-    let mut s = 0;
-    while s < res.len() {
-        let x = over_rest(a, f, m, s, 1);
-        set_entry(res, s, x);
-        s += 1;
+    for (s, x) in res.iter_mut().enumerate() {
+        *x = over_rest(a, f, m, s, 1);
     }
 }
 
@@ -47,23 +38,18 @@ pub fn exponential_table(a: &[u32], m: u32, res: &mut [u32]) {
 
 // The sum over all sets l and all partitions of the other controls into i blocks, of a[l] times the product of b over the blocks.
 fn projection_entry(i: usize, a: &[u32], b: &[u32], m: u32) -> u32 {
-    let mut row = [0u32; 17];
+    let mut row = [0; 17];
     set_entry(&mut row, i, 1);
-    let mut sum: u32 = 0;
-    let mut l = 0;
-    while l < a.len() {
-        let others = a.len() - 1 - l;
-        sum = plus(sum, over_rest(b, &row, m, others, entry(a, l)), m);
-        l += 1;
+    let mut sum = 0;
+    // From the last set on, so that the others count up.
+    for (others, x) in a.iter().rev().enumerate() {
+        sum = plus(sum, over_rest(b, &row, m, others, *x), m);
     }
     sum
 }
 
 pub fn projection_row(a: &[u32], b: &[u32], m: u32, res: &mut [u32]) {
-    let mut i = 0;
-    while i < res.len() {
-        let x = projection_entry(i, a, b, m);
-        set_entry(res, i, x);
-        i += 1;
+    for (i, x) in res.iter_mut().enumerate() {
+        *x = projection_entry(i, a, b, m);
     }
 }

@@ -3,7 +3,7 @@ use crate::numbers::{largest_residue, set_entry, times};
 
 // The entry x of s, or 0 if s has more controls than that.
 fn kept(x: u32, s: usize, most: u32) -> u32 {
-    if most < usize::count_ones(s) { 0 } else { x }
+    if most < s.count_ones() { 0 } else { x }
 }
 
 // The generator's states are powers modulo 2147483647, which would make an entry a product over the controls of its set; the
@@ -21,11 +21,9 @@ fn residue(state: u32, m: u32) -> u32 {
 // that.
 fn fill(a: &mut [u32], most: u32, seed: u32, m: u32) {
     let mut state = seed;
-    let mut s = 0;
-    while s < a.len() {
+    for (s, x) in a.iter_mut().enumerate() {
         state = times(state, 48271, 2147483647);
-        a[s] = kept(residue(state, m), s, most);
-        s += 1;
+        *x = kept(residue(state, m), s, most);
     }
 }
 

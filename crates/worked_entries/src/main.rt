@@ -8,54 +8,26 @@
 
 mod show;
 
+use lines::Case;
 use std::io;
 
-// Runs the call that a line names, and shows its outcome; false if there is no such call.
-fn run(
-    rt: &impl Print,
-    line: &[u8],
-    a: &[u32],
-    b: &[u32],
-    res: &mut [u32],
-    pad: &mut [u32],
-) -> io::Result<bool> {
-    let n = lines::controls(line);
-    let m = lines::modulus(line);
-    let returned = calls::run(lines::call(line), n, m, a, b, res, pad);
-    show::outcome(rt, line, returned, res)?;
-    show::pad(rt, pad)?;
-    Ok(returned != calls::NO_CALL)
-}
+// What a result and a pad hold when they are lent.
+const LENT: u32 = 9;
 
-// The lengths are cut to what there is to lend.
-fn lent(rt: &impl Print, line: &[u8], a: &[u32], b: &[u32]) -> io::Result<bool> {
-    let mut nines = [9u32; 17];
-    let mut more_nines = [9u32; 82];
-    let result = lines::first(&mut nines, lines::result_length(line));
-    let pad = lines::first(&mut more_nines, lines::pad_length(line));
-    run(rt, line, a, b, result, pad)
-}
-
-// The longest list that a call accepts here is a row for 16 controls.
-fn case(rt: &impl Print, line: &[u8]) -> io::Result<bool> {
-    let mut first = [0u32; 18];
-    let mut second = [0u32; 18];
-    let a = lines::numbers(lines::first_list(line), &mut first);
-    let b = lines::numbers(lines::second_list(line), &mut second);
-    lent(rt, line, a, b)
-}
-
-fn cases(rt: &impl Print, input: &[u8]) -> io::Result<()> {
-    for k in 0..lines::marks(input, b'\n') {
-        if !case(rt, lines::part(input, b'\n', k))? {
-            return lines::text(rt, b"no such call\n");
-        }
-    }
-    Ok(())
+// Makes the call that a case names, and shows its outcome; false if there is no such call. The longest list that a call accepts
+// here is a row for 16 controls.
+fn case(rt: &impl Print, case: Case) -> io::Result<bool> {
+    let mut first = [0; 18];
+    let mut second = [0; 18];
+    let mut res = [LENT; 17];
+    let mut pad = [LENT; 82];
+    let a = lines::numbers(case.first_list(), &mut first);
+    let b = lines::numbers(case.second_list(), &mut second);
+    let outcome = calls::run(case, a, b, &mut res, &mut pad);
+    show::outcome(rt, case, &outcome)?;
+    Ok(outcome.answer.is_ok())
 }
 
 fn main(rt: HostRuntime) -> io::Result<()> {
-    let mut input = [0u8; 16384];
-    let length = lines::fill(&mut rt.reader(), &mut input)?;
-    cases(&rt, &input[..length])
+    lines::each_case(&rt, |line| case(&rt, line))
 }

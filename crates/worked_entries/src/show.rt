@@ -1,44 +1,28 @@
 // A line of output for each case, in parts.
-use lines::{entries, long_number, mark, text};
+use calls::{Answer, Outcome};
+use lines::{Case, Entries};
 use std::io;
 
-fn between(rt: &impl Print, before: u8, list: &[u32], after: u8) -> io::Result<()> {
-    mark(rt, before)?;
-    entries(rt, list)?;
-    mark(rt, after)
-}
-
-// A row in round brackets, a table in square ones.
-fn list(rt: &impl Print, line: &[u8], res: &[u32]) -> io::Result<()> {
-    match lines::call(line) {
-        b'b' | b'p' => between(rt, b'(', res, b')'),
-        _ => between(rt, b'[', res, b']'),
+// A row in round brackets, a table in square ones; what a case without a call was lent, in square ones too.
+fn list(rt: &impl Print, outcome: &Outcome) -> io::Result<()> {
+    let entries = Entries(outcome.res);
+    match outcome.answer {
+        Ok(Answer { call, .. }) if call.gives_row() => print!(rt; "({entries})"),
+        _ => print!(rt; "[{entries}]"),
     }
 }
 
-// Only the subset product has one.
-fn ceiling(rt: &impl Print, line: &[u8], returned: u64) -> io::Result<()> {
-    if lines::call(line) == b's' {
-        text(rt, b", ceiling ")?;
-        long_number(rt, returned >> 32)?;
+// The name of a case, the number that its call returned, what the result then holds, and the ceiling, which only the subset
+// product has; and what became of the pad that was lent, if one was.
+pub fn outcome(rt: &impl Print, case: Case, outcome: &Outcome) -> io::Result<()> {
+    rt.write_all(case.name())?;
+    print!(rt; ": {} ", outcome.number())?;
+    list(rt, outcome)?;
+    if let Some(ceiling) = outcome.ceiling() {
+        print!(rt; ", ceiling {ceiling}")?;
     }
-    Ok(())
-}
-
-// The name of a case, the number that its call returned, what the result then holds, and the ceiling.
-pub fn outcome(rt: &impl Print, line: &[u8], returned: u64, res: &[u32]) -> io::Result<()> {
-    text(rt, lines::name(line))?;
-    text(rt, b": ")?;
-    long_number(rt, returned & 4294967295)?;
-    mark(rt, b' ')?;
-    list(rt, line, res)?;
-    ceiling(rt, line, returned)
-}
-
-// What became of the pad that was lent, if one was.
-pub fn pad(rt: &impl Print, pad: &[u32]) -> io::Result<()> {
-    if 0 < pad.len() {
-        lines::pad(rt, pad, 9)?;
+    if !outcome.pad.is_empty() {
+        lines::pad(rt, outcome.pad, crate::LENT)?;
     }
-    mark(rt, b'\n')
+    print!(rt; "\n")
 }

@@ -10,7 +10,8 @@ use Rattle.lines.proofs.input.fill.Goals as goal
 front : (a k n : ℕ) (xs ys : List ℕ) → a ≤ length xs → n ≤ length ys → take a xs ++ take n ys ≡ take (a + n) (put_mid a k xs ys)
 front a k n xs ys within fits =
     let rest = ys ++ post_of a k xs in
-    ap (λ l. take a xs ++ l) (sym (take-append-le n ys (post_of a k xs) fits)) ∙ sym (take-append-add (take a xs) rest n) ∙ ap (λ m. take (m + n) (take a xs ++ rest)) (length-take-le a xs within)
+    let joined = sym (take-append-add (take a xs) rest n) ∙ ap (λ m. take (m + n) (take a xs ++ rest)) (length-take-le a xs within) in
+    ap (λ l. take a xs ++ l) (sym (take-append-le n ys (post_of a k xs) fits)) ∙ joined
 
 pub loop-done-preserved : goal.loop-done-preserved
 loop-done-preserved g c =
