@@ -26,7 +26,8 @@ use Rattle.projection_theory.specs.Levels.{paired_all, Same, same_tables, turn_n
 use Rattle.projection_theory.proofs.Turns.{turn}
 use Rattle.projection.specs.Places.{TurnReady, TurnMade}
 use Rattle.projection.specs.Levels.{slots, Residues, Areas, LevelReady, LevelMade, Ready}
-use Rattle.projection.proofs.Places.{untouched, part_placed}
+use Rattle.projection.proofs.Places.{untouched}
+use Rattle.ranked_within.proofs.Products.{part_placed}
 
 -- ---- one level: table 0 starts out as zeros
 
