@@ -2,3 +2,4 @@ pub mod Words
 pub mod Accepted
 pub mod Answers
 pub mod Ends
+pub mod Making
