@@ -1,3 +1,4 @@
+pub mod Copies
 pub mod Upper
 pub mod Places
 pub mod Turns

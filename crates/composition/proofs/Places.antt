@@ -2,34 +2,16 @@
 use mathlib.Core.Path.{◌≡◌, sym, ap, ap₂, ◌∙◌}
 use mathlib.Core.List.{List}
 use mathlib.Core.Logic.{◌⊎◌, inl, inr}
-use Prim.Native.Nat.{ℕ, suc, ◌+◌, ◌-◌, ◌*◌, ◌^◌, ◌<◌, ◌≤◌}
+use Prim.Native.Nat.{ℕ, zero, suc, ◌+◌, ◌-◌, ◌*◌, ◌^◌, ◌<◌, ◌≤◌}
 use native.Mathlib.Omega.{arith}
 use lib.ListN.{length, take, drop}
 use lib.Seq.{get_or-drop, drop-drop}
 use borrow.Rule.Slice.PartMut.{mid_len}
-use Rattle.std.specs.List.{CopiedTo, SameBelow, SameFrom}
 use Rattle.definitions.specs.Sums.{at}
 use Rattle.definitions.specs.Products.{subset_table}
 use Rattle.theory.specs.Parts.{at_part}
 use Rattle.ranked_within.specs.Within.{table_at, WithinReady, WithinMade}
-use Rattle.composition.specs.Slots.{TurnReady, Turned}
-
--- a table of so many numbers also stands at another place
-pub record Moved (size source target : ℕ) (r s : List ℕ) : Type 0 where
-  pub there : (j : ℕ) → j < size → at s (target + j) ≡ at r (source + j)
-  pub before : (x : ℕ) → x < target → at s x ≡ at r x
-  pub behind : (x : ℕ) → target + size ≤ x → at s x ≡ at r x
-
--- as the library says it of a copy within a list
-pub moved : {source count target size : ℕ} {r s : List ℕ} → count ≡ size
-    → CopiedTo r s source target count × SameBelow r s target × SameFrom r s (target + count) → Moved size source target r s
-moved {source} {target = target} {r = r} many (copied, before, behind) = record {
-  there = λ j h.
-      let back : target + j - target ≡ j = omega arith in
-      copied (target + j) 0 (omega arith) (omega arith) ∙ ap (λ (x : ℕ). at r (source + x)) back;
-  before = λ x h. before x 0 h;
-  behind = λ x h. behind x 0 (omega arith);
-}
+use Rattle.composition.specs.Slots.{CopyReady, Copied, TurnReady, Turned}
 
 module _ {k i m size start : ℕ} {a w : List ℕ} (e : size ≡ 2 ^ k) (d : TurnReady k i m start a w) where
   shift_is : i * size ≡ i * 2 ^ k
@@ -62,8 +44,15 @@ module _ {k i m size start : ℕ} {a w : List ℕ} (e : size ≡ 2 ^ k) (d : Tur
     right_below = λ h l. rw (at_part size (size + size - size) a h (omega arith)) (d.below (size + h) (omega arith));
   }
 
+  pub copy_ready : (s : List ℕ) → length s ≡ length w → CopyReady size (start + i * size) (start + i * size + i * size) s
+  copy_ready s l = record { inside = omega (arith, shift_is, d.inside, l); ordered = omega arith; apart = apart i }
+    where
+      apart : (i : ℕ) → (start + i * size ≡ start + i * size + i * size) ⊎ (start + i * size + size ≤ start + i * size + i * size)
+      apart zero = inl (omega arith)
+      apart (suc j) = inr (omega arith)
+
   module _ {s t : List ℕ} (p : WithinMade m k (start + i * size + size) (start + i * size + size + i * size) upper w s)
-      (c : Moved size (start + i * size) (start + i * size + i * size) s t) where
+      (c : Copied size (start + i * size) (start + i * size + i * size) s t) where
     -- behind the rows and outside the product, nothing changes
     kept : (x : ℕ) → start ≤ x → (x < start + i * size + size + i * size) ⊎ (start + i * size + size + i * size + size ≤ x) → at s x ≡ at w x
     kept x h (inl l) = p.rest x (omega (arith, d.rows)) (λ j lj q. omega arith)

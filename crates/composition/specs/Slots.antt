@@ -1,5 +1,5 @@
 -- Tables side by side in a list, and the step that makes one table of the next size of two neighbours.
-use Rattle.std.specs.Prelude.{◌≡◌, List, ℕ, suc, ◌+◌, ◌-◌, ◌*◌, ◌%◌, ◌^◌, ◌<◌, ◌≤◌, length, drop}
+use Rattle.std.specs.Prelude.{◌≡◌, List, ◌⊎◌, ℕ, suc, ◌+◌, ◌-◌, ◌*◌, ◌%◌, ◌^◌, ◌<◌, ◌≤◌, length, drop}
 use Rattle.definitions.specs.Limits.{most_controls}
 use Rattle.definitions.specs.Sums.{at}
 use Rattle.definitions.specs.Products.{subset_table}
@@ -7,6 +7,18 @@ use Rattle.definitions.specs.Partitions.{composition_sum}
 use Rattle.theory.specs.Halves.{from}
 use Rattle.ranked_theory.specs.Layout.{rows_length}
 use Rattle.ranked_within.specs.Within.{table_at}
+
+-- ---- a table copied to its own place or behind itself
+
+pub record CopyReady (size source target : ℕ) (r : List ℕ) : Type 0 where
+  pub inside : target + size ≤ length r
+  pub ordered : source ≤ target
+  pub apart : (source ≡ target) ⊎ (source + size ≤ target)
+
+pub record Copied (size source target : ℕ) (r s : List ℕ) : Type 0 where
+  pub there : (j : ℕ) → j < size → at s (target + j) ≡ at r (source + j)
+  pub before : (x : ℕ) → x < target → at s x ≡ at r x
+  pub behind : (x : ℕ) → target + size ≤ x → at s x ≡ at r x
 
 -- ---- one table of the next size
 

@@ -5,11 +5,23 @@
 ghost use Rattle.std.specs.Prelude.{◌≡◌, drop};
 ghost use Rattle.definitions.specs.Partitions.{composition_table};
 ghost use Rattle.composition.specs.Ready.{Ready, RowReady, ResultReady, result_in};
-ghost use Rattle.composition.specs.Slots.{TurnReady, Turned, LevelReady, LevelRaised};
+ghost use Rattle.composition.specs.Slots.{CopyReady, Copied, TurnReady, Turned, LevelReady, LevelRaised};
 
 use pads::power_of_two;
+use pointwise::copy;
 use ranked_within::{multiply_within, rows_length};
 use residues::Modulus;
+
+// The table of so many numbers at one place of the workspace also stands at another: the same place, or one behind it. (A loop: for
+// `copy_within` a C host would have to bring memmove.)
+fn copy_table(size: usize, source: usize, target: usize, workspace: &mut [u32])
+    requires { CopyReady size source target workspace.old }
+    ensures { Copied size source target workspace.old workspace.new }
+{
+    for i in 0..size {
+        workspace[target + i] = workspace[source + i];
+    }
+}
 
 // Table i of k + 1 controls, in slots 2i and 2i + 1 from `start` on: its lower half is table i of k controls, its upper half the
 // product of table i + 1 and of a's entries with control k alone of the controls from k on.
@@ -23,7 +35,7 @@ fn next_table(k: usize, i: usize, modulus: Modulus, start: usize, a: &[u32], wor
     let next = slot + size;
     let a_end = size + size;
     multiply_within(k, modulus, next, next + shift, &a[size..a_end], workspace);
-    workspace.copy_within(slot..next, slot + shift);
+    copy_table(size, slot, slot + shift, workspace);
 }
 
 // The tables of k + 1 controls from those of k, the last one first: so no slot is overwritten before it is read.
@@ -46,7 +58,7 @@ pub fn composition_table(n: usize, modulus: Modulus, a: &[u32], f: &[u32], works
     let start = rows_length(n);
     // with no controls, table i is the row's entry i
     let entries = n + 1;
-    workspace[start..start + entries].copy_from_slice(&f[..entries]);
+    copy(&f[..entries], &mut workspace[start..start + entries]);
     for k in 0..n {
         next_level(n, k, modulus, start, a, workspace);
     }
@@ -58,5 +70,5 @@ pub fn take_result(n: usize, workspace: &[u32], res: &mut [u32])
     ensures { res.new ≡ result_in n workspace.now }
 {
     let start = rows_length(n);
-    res.copy_from_slice(&workspace[start..start + res.len()]);
+    copy(&workspace[start..start + res.len()], res);
 }

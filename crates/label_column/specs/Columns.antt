@@ -15,4 +15,4 @@ joint rest = cond (eqb rest 0) [] (43 ∷ [])
 
 -- how pages are laid out with some labels
 abbrev pub layout_of : Labels → Layout
-layout_of labels = label_layout (labels_in labels.labels)
+layout_of labels = label_layout (labels_in labels.labels.now)

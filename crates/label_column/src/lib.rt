@@ -41,7 +41,7 @@ fn write_joint(rest: usize, at: usize, out: &mut [u8]) -> usize
 pub fn write_column(code: usize, labels: &Labels, at: usize, out: &mut [u8]) -> usize
     requires { Room code 143 at out.old }
     ensures value { result ≡ size code }
-    ensures writes { Writes out.old at (filled 143 (labelled (labels_in labels.now.labels) code)) (at + 143) out.new }
+    ensures writes { Writes out.old at (filled 143 (labelled (labels_in labels.now.labels.now) code)) (at + 143) out.new }
 {
     write_blanks(at, at + COLUMN_WIDTH, out);
     if code == 0 {

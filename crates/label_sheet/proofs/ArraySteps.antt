@@ -17,12 +17,13 @@ use Rattle.definitions.specs.Limits.{most_controls}
 use Rattle.definitions.specs.Files.{tail_word}
 use Rattle.definitions.specs.Outcomes.{Outcome, accepted, refused, and_then, unless}
 use Rattle.definitions.specs.Sheets.{Labels, read_labels, same, among, twice, equal_word, sheet_end, read_sheet, label_of}
-use Rattle.refusals.specs.Words.{word, word-not-zero}
+use Rattle.std.specs.Prelude.{Result, Ok, Err}
+use Rattle.refusals.specs.Words.{word, word_of, word-not-zero}
 use Rattle.refusals.specs.declared.Refusal.{Refusal}
 use Rattle.label_theory.proofs.SheetLaws.{sheet_read}
 use Rattle.label_sheet.specs.declared.labels.Label.{Label}
 use Rattle.label_sheet.specs.LabelArrays.{labels_in, Held, Ready}
-use Rattle.label_sheet.specs.SheetAnswers.{LabelsAre, to_tail}
+use Rattle.label_sheet.specs.SheetAnswers.{LabelsAre, to_tail, sheet_outcome}
 use Rattle.label_sheet.specs.ArrayLaws.{labels_length, same_names, other_names}
 
 -- ---- equal labels
@@ -113,6 +114,11 @@ module _ {array : List Label} (held : Held array) {control : ℕ} (s : Different
 
 -- ---- the sheet
 
+-- a `?` hands its refusal on
+pub sheet_handed : {A : Type 0} {o : Outcome (List (List ℕ))} {refusal : Refusal} (r : Result A Refusal) (array : List Label) → r ≡ Err refusal
+    → refused (word refusal) ≡ o → sheet_outcome r array ≡ o
+sheet_handed {A} r array e h = ap (λ (x : Result A Refusal). sheet_outcome x array) e ∙ h
+
 -- what follows when nothing is behind the labels
 abbrev different_end : Labels → Outcome (List (List ℕ))
 different_end x = unless (equal_word x.labels) (accepted x.labels)
@@ -150,3 +156,8 @@ module _ (sheet : List ℕ) where
 
       pub sheet_ready : Ready array
       sheet_ready = record { held = l.held; good = (sheet_read sheet (labels_in array) (sym sheet_accepts)).good }
+
+    -- as the test for equal labels answers
+    pub sheet_by : {A : Type 0} (r : Result A Refusal) → word_of r ≡ equal_word (labels_in array) → sheet_outcome r array ≡ read_sheet sheet
+    sheet_by (Ok x) e = sheet_accepts e
+    sheet_by (Err r) e = sheet_equal r e

@@ -1,5 +1,5 @@
 -- The steps of reading a sheet: bytes, a label, all labels, the end.
-use mathlib.Core.Path.{◌≡◌, refl, sym, ◌∙◌, ap, ap₂}
+use mathlib.Core.Path.{◌≡◌, refl, sym, ◌∙◌, ap, ap₂, subst}
 use mathlib.Core.Bool.{Bool, true, false, not, ◌&&◌, ◌||◌, or_assoc}
 use mathlib.Core.List.{List, [], ◌∷◌, ◌++◌, append_assoc, append-nil}
 use Rattle.std.specs.Prelude.{Result, Ok, Err}
@@ -33,7 +33,7 @@ use Rattle.label_sheet.specs.declared.LabelAt.{LabelAt}
 use Rattle.label_sheet.specs.declared.labels.Label as code
 use Rattle.label_sheet.specs.LabelArrays.{HasLabel}
 use Rattle.label_sheet.specs.ArrayLaws.{these, held}
-use Rattle.label_sheet.specs.SheetAnswers.{label_byte, ByteRead, LabelIs, LabelsAre, to_tail}
+use Rattle.label_sheet.specs.SheetAnswers.{label_byte, ByteRead, LabelIs, LabelsAre, LabelsRead, to_tail}
 
 -- ---- letters and digits
 
@@ -197,6 +197,11 @@ one_label_in_front : (texts : List (List ℕ)) (l : List ℕ) (o : Outcome Label
     and_then (and_then o (label_in_front l)) (labels_in_front texts) ≡ and_then o (labels_in_front (texts ++ (l ∷ [])))
 one_label_in_front texts l (accepted x) = ap (λ (ls : List (List ℕ)). accepted (record { labels = ls; rest = x.rest })) (sym (append_assoc texts (l ∷ []) x.labels))
 one_label_in_front texts l (refused k) = refl
+
+-- a `?` hands its refusal on
+pub labels_handed : {A : Type 0} {o : Outcome Labels} {refusal : Refusal} (r : Result A Refusal) (array : List code.Label) → r ≡ Err refusal
+    → o ≡ refused (word refusal) → LabelsRead o r array
+labels_handed {A} {o} r array e h = subst (λ (x : Result A Refusal). LabelsRead o x array) (sym e) h
 
 -- the labels of the controls before one are read, and the others stand at the place
 pub record LabelsSoFar (sheet : List ℕ) (array : List code.Label) (place control : ℕ) : Type 0 where

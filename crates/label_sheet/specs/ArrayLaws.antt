@@ -2,6 +2,7 @@
 --   name_label               the bytes of a kept label before the first blank are the label
 --   label_here               a label that is kept for a text is this text without the blanks
 --   labels_length, label_at  as many labels as are kept, and each of them
+--   labels_sixteen           the labels of a sheet are sixteen
 --   labels_are               labels that are kept for some texts are these texts
 --   held                     labels that are kept for sixteen good ones are held
 --   same_names, other_names  two labels are the same exactly if their names are
@@ -38,6 +39,9 @@ label_here {l} {text} h =
 
 pub labels_length : (array : List Label) → length (labels_in array) ≡ length array
 labels_length array = length-map array label_in
+
+pub labels_sixteen : (x : Labels) → length (labels_in x.labels.now) ≡ most_controls
+labels_sixteen x = labels_length x.labels.now ∙ x.ready.held.sixteen
 
 pub label_at : (array : List Label) (i : ℕ) (d : Label) → i < length array → label_of (labels_in array) i ≡ label_in (get_or array i d)
 label_at array i d h = get_or-map label_in array i d [] h
@@ -81,9 +85,10 @@ module _ (array : List Label) (are : Held array) (i j : ℕ) (d : Label) (h : i 
       by true e =
           absurd (n ((are.kept i d h).name_is ∙ ap (filled longest_label) (same_is (label_of (labels_in array) i) (label_of (labels_in array) j) e) ∙ sym (are.kept j d k).name_is))
 
-pub number_is : (sheet : List ℕ) (r : Result Labels Refusal) → sheet_outcome r ≡ read_sheet sheet → word_of r ≡ sheet_number sheet
-number_is sheet (Ok x) e = ap number_of e
-number_is sheet (Err r) e = ap number_of e
+pub number_is : {A : Type 0} (sheet : List ℕ) (r : Result A Refusal) (array : List Label) → sheet_outcome r array ≡ read_sheet sheet → word_of r ≡ sheet_number sheet
+number_is sheet (Ok x) array e = ap number_of e
+number_is sheet (Err r) array e = ap number_of e
 
-pub loaded : (sheet : List ℕ) (x : Labels) → sheet_outcome (Ok x) ≡ read_sheet sheet → AcceptedSheet sheet × (labels_in x.labels ≡ sheet_labels sheet)
-loaded sheet x e = (sym (ap number_of e), ap (value_or [] (λ (ls : List (List ℕ)). ls)) e)
+pub loaded : {A : Type 0} (sheet : List ℕ) (x : A) (array : List Label) → sheet_outcome (Ok x) array ≡ read_sheet sheet
+    → AcceptedSheet sheet × (labels_in array ≡ sheet_labels sheet)
+loaded sheet x array e = (sym (ap number_of e), ap (value_or [] (λ (ls : List (List ℕ)). ls)) e)

@@ -8,7 +8,6 @@ use Rattle.definitions.specs.Sheets.{Label, Labels, label_byte_word}
 use Rattle.number_groups.specs.NumberAnswers.{outcome}
 use Rattle.label_sheet.specs.declared.LabelAt.{LabelAt}
 use Rattle.label_sheet.specs.declared.labels.Label as code
-use Rattle.label_sheet.specs.declared.labels.Labels as sheet
 use Rattle.label_sheet.specs.LabelArrays.{HasLabel, Held, labels_in}
 
 -- the byte of a label at the start of some bytes: 8 if there is none, then 17
@@ -41,10 +40,10 @@ pub record LabelsAre (o : Outcome Labels) (array : List code.Label) : Type 0 whe
   pub rest : List ℕ
   pub read : o ≡ accepted (record { labels = labels_in array; rest = rest })
 
-abbrev pub LabelsRead : Outcome Labels → Result (List code.Label) Refusal → Type 0
-LabelsRead o (Ok array) = LabelsAre o array
-LabelsRead o (Err r) = o ≡ refused (word r)
+abbrev pub LabelsRead : {A : Type 0} → Outcome Labels → Result A Refusal → List code.Label → Type 0
+LabelsRead o (Ok x) array = LabelsAre o array
+LabelsRead o (Err r) array = o ≡ refused (word r)
 
--- a sheet's labels, or the word
-abbrev pub sheet_outcome : Result sheet.Labels Refusal → Outcome (List (List ℕ))
-sheet_outcome r = outcome (λ x. labels_in x.labels) r
+-- a sheet's labels, as they are kept then, or the word
+abbrev pub sheet_outcome : {A : Type 0} → Result A Refusal → List code.Label → Outcome (List (List ℕ))
+sheet_outcome r array = outcome (λ x. labels_in array) r

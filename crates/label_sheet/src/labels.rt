@@ -13,9 +13,10 @@ pub struct Label {
     pub length: usize,
 }
 
-// The labels of an accepted sheet, one for each control.
+// The labels of an accepted sheet, one for each control, lent from where a caller keeps them: to move so many, a C host would
+// have to bring memcpy.
 #[derive(Clone, Copy)]
-pub struct Labels {
-    pub labels: [Label; LABELS],
-    ghost ready: { Ready labels } by { ready-prop labels },
+pub struct Labels<'a> {
+    pub labels: &'a [Label; LABELS],
+    ghost ready: { Ready labels.now } by { ready-prop labels.now },
 }

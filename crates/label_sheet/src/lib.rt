@@ -6,7 +6,7 @@ ghost use Rattle.definitions.specs.Limits.{most_controls, longest_label};
 ghost use Rattle.definitions.specs.Outcomes.{and_then};
 ghost use Rattle.definitions.specs.Sheets.{read_bytes, read_label, read_labels, among, equal_word, read_sheet, label_of};
 ghost use Rattle.refusals.specs.Words.{word_of};
-ghost use Rattle.label_sheet.specs.LabelArrays.{labels_in, Held};
+ghost use Rattle.label_sheet.specs.LabelArrays.{labels_in, Held, Ready};
 ghost use Rattle.label_sheet.specs.SheetAnswers.{ByteRead, LabelRead, LabelsRead, to_tail, sheet_outcome};
 
 mod labels;
@@ -67,13 +67,9 @@ fn read_label(sheet: &[u8], at: usize) -> Result<LabelAt, Refusal>
 }
 
 // All labels, and nothing behind them (9).
-fn read_labels(sheet: &[u8]) -> Result<[Label; LABELS], Refusal>
-    ensures { LabelsRead (and_then (read_labels most_controls sheet.now) to_tail) result }
+fn read_labels(sheet: &[u8], labels: &mut [Label; LABELS]) -> Result<(), Refusal>
+    ensures { LabelsRead (and_then (read_labels most_controls sheet.now) to_tail) result labels.new }
 {
-    let mut labels = [Label {
-        name: [b' '; LONGEST_LABEL],
-        length: 0,
-    }; LABELS];
     let mut place = 0;
     for control in 0..LABELS {
         let read = read_label(sheet, place)?;
@@ -83,7 +79,7 @@ fn read_labels(sheet: &[u8]) -> Result<[Label; LABELS], Refusal>
     if place < sheet.len() {
         return Err(Refusal::Tail);
     }
-    Ok(labels)
+    Ok(())
 }
 
 // Whether the label of a control stands again behind it.
@@ -113,11 +109,11 @@ fn check_different(labels: &[Label; LABELS]) -> Result<(), Refusal>
     Ok(())
 }
 
-// The labels of a sheet if it is accepted, else the first refusal.
-pub fn read_sheet(sheet: &[u8]) -> Result<Labels, Refusal>
-    ensures { sheet_outcome result ≡ read_sheet sheet.now }
+// The labels of a sheet if it is accepted, put where the caller keeps them; else the first refusal.
+pub fn read_sheet(sheet: &[u8], labels: &mut [Label; LABELS]) -> Result<(), Refusal>
+    ensures outcome { sheet_outcome result labels.new ≡ read_sheet sheet.now }
+    ensures ready { word_of result ≡ 0 → Ready labels.new }
 {
-    let labels = read_labels(sheet)?;
-    check_different(&labels)?;
-    Ok(Labels { labels })
+    read_labels(sheet, labels)?;
+    check_different(labels)
 }

@@ -1,4 +1,4 @@
--- The call's number by its tests, and the array of labels that a sheet is read into.
+-- The call's number by its tests, and the labels that a sheet is read into.
 use mathlib.Core.Path.{◌≡◌, refl, sym, ◌∙◌, ap, subst}
 use mathlib.Core.List.{List, [], ◌∷◌, ◌++◌}
 use Rattle.std.specs.Prelude.{Result, Ok, Err}
@@ -18,8 +18,7 @@ use Rattle.residues.specs.declared.Modulus.{Modulus}
 use Rattle.table_writer.specs.Writing.{TextBy}
 use Rattle.table_writer.specs.WritingLaws.{text_accepted, text_refused}
 use Rattle.label_sheet.specs.LabelArrays.{labels_in}
-use Rattle.label_sheet.specs.declared.labels.Labels.{Labels}
-use Rattle.label_column.specs.Columns.{layout_of}
+use Rattle.label_sheet.specs.declared.labels.Label.{Label}
 use Rattle.pages.specs.PagesBy.{IfRoom, IfSheet}
 
 or_else_assoc : (i j k : ℕ) → or_else (or_else i j) k ≡ or_else i (or_else j k)
@@ -64,10 +63,10 @@ module _ (n m : ℕ) (A sheet old : List ℕ) {r : Result Modulus Refusal} (test
 
 module _ (sheet A old : List ℕ) where
   -- what is written with its labels
-  pub as_loaded : (labels : Labels) → accepted (labels_in labels.labels) ≡ read_sheet sheet → {w : Result ℕ Refusal} {buffer : List ℕ} →
-      IfRoom (pages_text (layout_of labels) A) old w buffer → IfSheet sheet A old w buffer
-  as_loaded labels e {w} {buffer} h =
-      let text : pages_text (layout_of labels) A ≡ wall_pages sheet A =
+  pub as_loaded : (array : List Label) → accepted (labels_in array) ≡ read_sheet sheet → {w : Result ℕ Refusal} {buffer : List ℕ} →
+      IfRoom (pages_text (label_layout (labels_in array)) A) old w buffer → IfSheet sheet A old w buffer
+  as_loaded array e {w} {buffer} h =
+      let text : pages_text (label_layout (labels_in array)) A ≡ wall_pages sheet A =
       ap (λ (o : Outcome (List (List ℕ))). pages_text (label_layout (value_or [] (λ ls. ls) o)) A) e in
       text_accepted (wall_pages sheet A) old (sheet_number sheet) _ refl (sym (ap number_of e))
       (subst (λ (t : List ℕ). IfRoom t old w buffer) text h)

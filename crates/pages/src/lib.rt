@@ -13,7 +13,7 @@ ghost use Rattle.pages.specs.PagesBy.{IfRoom, IfSheet};
 
 use checks::check_table;
 use label_column::{COLUMN_WIDTH, write_column};
-use label_sheet::{Labels, read_sheet};
+use label_sheet::{LABELS, LONGEST_LABEL, Label, Labels, read_sheet};
 use nonzero_entries::next_entry;
 use page_text::{PAGE_LINES, Place, count_lines, count_pages, write_behind, write_heading};
 use refusals::Refusal;
@@ -89,8 +89,12 @@ fn write_labelled(table: &[u32], sheet: &[u8], buffer: &mut [u8]) -> Result<u32,
     requires { MostEntries (length table.now) }
     ensures { IfSheet sheet.now table.now buffer.old result buffer.new }
 {
-    let labels = read_sheet(sheet)?;
-    write_checked(table, &labels, buffer)
+    let mut labels = [Label {
+        name: [b' '; LONGEST_LABEL],
+        length: 0,
+    }; LABELS];
+    read_sheet(sheet, &mut labels)?;
+    write_checked(table, &Labels { labels: &labels }, buffer)
 }
 
 // The pages of a table, with the labels of a sheet, into the start of the buffer. It answers how many bytes it wrote.

@@ -9,12 +9,14 @@ ghost use Rattle.pointwise.specs.Tables.{Ready};
 
 use residues::Modulus;
 
-// `copy_from_slice` under the name that the calls use.
+// A loop: for `copy_from_slice` a C host would have to bring memmove.
 pub fn copy(from: &[u32], to: &mut [u32])
     requires { length from.now ≡ length to.old }
     ensures { to.new ≡ from.now }
 {
-    to.copy_from_slice(from);
+    for (i, entry) in to.iter_mut().enumerate() {
+        *entry = from[i];
+    }
 }
 
 // Entry by entry, the table times another.

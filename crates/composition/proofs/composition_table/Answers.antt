@@ -3,11 +3,11 @@ use native.Mathlib.Omega.{arith}
 use Rattle.composition.proofs.Levels.{row_in, composing_first, level_ready, composing_more, composed}
 use Rattle.composition.proofs.composition_table.Goals as goal
 
-pub slice_bounds-copy_from_slice-end : goal.slice_bounds-copy_from_slice-end
-slice_bounds-copy_from_slice-end c = omega (arith, row_in c.rows_length-start.ensures c.requires.ready c.requires.row_ready refl)
+pub slice_bounds-copy-end-2 : goal.slice_bounds-copy-end-2
+slice_bounds-copy-end-2 c = omega (arith, row_in c.rows_length-start.ensures c.requires.ready c.requires.row_ready refl)
 
 pub loop-k-init : goal.loop-k-init
-loop-k-init c = composing_first c.rows_length-start.ensures c.requires.ready c.requires.row_ready refl c.copy_from_slice.ensures.after
+loop-k-init c = composing_first c.rows_length-start.ensures c.requires.ready c.requires.row_ready refl c.copy.ensures
 
 pub next_level-requires : goal.next_level-requires
 next_level-requires c = level_ready c.rows_length-start.ensures c.requires.ready c.requires.row_ready c.loop-k.invariant c.loop-k-test.true

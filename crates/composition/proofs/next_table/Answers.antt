@@ -1,5 +1,5 @@
 use native.Mathlib.Omega.{arith}
-use Rattle.composition.proofs.Places.{inside, within_ready, moved, turned}
+use Rattle.composition.proofs.Places.{inside, within_ready, copy_ready, turned}
 use Rattle.composition.proofs.next_table.Goals as goal
 
 pub overflow_mul-shift : goal.overflow_mul-shift
@@ -20,5 +20,8 @@ multiply_within-requires c = within_ready c.power_of_two-size.ensures c.requires
 pub overflow_add-slot-2 : goal.overflow_add-slot-2
 overflow_add-slot-2 c = omega (arith, inside c.power_of_two-size.ensures c.requires)
 
+pub copy_table-requires : goal.copy_table-requires
+copy_table-requires c = copy_ready c.power_of_two-size.ensures c.requires _ c.multiply_within.auto.workspace
+
 pub returns : goal.returns
-returns c = turned c.power_of_two-size.ensures c.requires c.multiply_within.ensures (moved (omega arith) c.copy_within.ensures.by_index)
+returns c = turned c.power_of_two-size.ensures c.requires c.multiply_within.ensures c.copy_table.ensures

@@ -1,16 +1,15 @@
-use mathlib.Core.Path.{refl, sym, subst}
+use borrow.Author.Rules.{rules}
 use native.Mathlib.Omega.{arith}
 use Rattle.number_groups.specs.NumberAnswers.{handed_on}
-use Rattle.label_sheet.specs.SheetAnswers.{LabelsRead}
-use Rattle.label_sheet.proofs.SheetSteps.{labels_start, labels_stop, labels_more, with_tail, labels_all}
+use Rattle.label_sheet.proofs.SheetSteps.{labels_handed, labels_start, labels_stop, labels_more, with_tail, labels_all}
 use Rattle.label_sheet.proofs.read_labels.Goals as goal
 
 pub loop-control-init : goal.loop-control-init
-loop-control-init c = labels_start _ _ refl
+loop-control-init c = labels_start _ _ (search rules)
 
 pub returns-in_err-read : goal.returns-in_err-read
 returns-in_err-read c =
-    subst (LabelsRead _) (sym (handed_on _ c.from_residual.ensures.1)) (labels_stop c.loop-control.invariant c.loop-control-test.true c.in_err-read.ensures)
+    labels_handed _ _ (handed_on _ c.from_residual.ensures.1) (labels_stop c.loop-control.invariant c.loop-control-test.true c.in_err-read.ensures)
 
 pub loop-control-preserved : goal.loop-control-preserved
 loop-control-preserved c = labels_more c.loop-control.invariant c.loop-control-test.true c.in_ok-read.ensures
