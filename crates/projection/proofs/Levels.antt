@@ -6,14 +6,15 @@ use Prim.Native.Nat.{ℕ, suc, ◌+◌, ◌-◌, ◌*◌, ◌%◌, ◌^◌, ◌<
 use native.Mathlib.Nat.{mod-lt, mod-mod}
 use native.Mathlib.Numerals.{add-one}
 use native.Mathlib.Omega.{arith}
-use lib.ListN.{length, take, drop, replicate, length-replicate, get_or-replicate}
+use lib.ListN.{length, take, drop}
 use lib.Pow.{pow_mono, pow_pos}
 use borrow.Rule.Slice.PartMut.{mid_len, put_mid, same_len_mid}
 use Rattle.definitions.specs.Sums.{at}
 use Rattle.definitions.specs.Products.{subset_sum}
 use Rattle.definitions.specs.Projection.{projection_entry, projection_row}
+use Rattle.definitions.specs.Refusals.{cleared}
 use Rattle.theory.specs.Tests.{below_or}
-use Rattle.theory.specs.Lists.{tabulate_of}
+use Rattle.theory.specs.Lists.{filled, filled_at, tabulate_of}
 use Rattle.theory.specs.Parts.{at_part}
 use Rattle.theory.specs.Powers.{more_than, slots_fit, two_slots}
 use Rattle.theory.specs.Halves.{Row}
@@ -77,27 +78,37 @@ module _ {m n k source target size end : ℕ} {b w : List ℕ} (d : LevelReady m
   abbrev part : List ℕ
   part = take (end - target) (drop target w)
 
-  pub turning_none : 0 < m → {new : List ℕ} → new ≡ replicate (length part) 0
-      → let v = put_mid target (end - target) w new in Turning m n k source target b w v 0 v
-  turning_none pos {new} is =
-      let v : List ℕ = put_mid target (end - target) w new in
-      let many : length part ≡ end - target = mid_len target end w zeros_in in
-      let long : length new ≡ length part = ap length is ∙ length-replicate {A = ℕ} (length part) 0 in
-      let p : Placed (λ x. 0) target (2 ^ k) w v =
-      runs.placed_as (part_placed target end w new (omega arith) zeros_in (long ∙ many)) (let z : end - target ≡ 2 ^ k = omega arith in z)
-      (λ i h. ap (λ (l : List ℕ). at l i) is ∙ get_or-replicate (length part) i 0 0 (omega arith)) in
-      let zero-at : (S : ℕ) → S < 2 ^ k → slots k target v 0 S ≡ 0 =
-      λ S h. ap (at v) (let z : target + (0 * 2 ^ k + S) ≡ target + S = omega arith in z) ∙ p.inside S h in
-      let same_long : length v ≡ length w = same_len_mid target (end - target) w new long in
-      record {
-        ready = zeroed d p same_long;
-        zeros = p;
-        as_lent = same_long;
-        long = refl;
-        kept = λ x h. refl;
-        filled = λ i S t h. let z : i ≡ 0 = omega arith in rw z (subst (λ (x : ℕ). x < m) (sym (zero-at S h)) pos);
-        same = turn_none m k (at b) (slots (suc k) source v) (slots k target v) zero-at;
-      }
+  many : length part ≡ size
+  many = omega (arith, mid_len target end w zeros_in)
+
+  pub zeros_fit : size ≤ length part
+  zeros_fit = omega (arith, many)
+
+  -- and has come back
+  module _ {new : List ℕ} (is : new ≡ cleared size part) (kept : length new ≡ length part) where
+    pub zeros-placed : Placed (λ x. 0) target (2 ^ k) w (put_mid target (end - target) w new)
+    unfolding cleared filled
+    zeros-placed =
+        runs.placed_as (part_placed target end w new (omega arith) zeros_in (kept ∙ mid_len target end w zeros_in)) (let z : end - target ≡ 2 ^ k = omega arith in z)
+        (λ i h. ap (λ (l : List ℕ). at l i) is ∙ filled_at (λ x. 0) size _ i (omega arith))
+
+    pub zeros_long : length (put_mid target (end - target) w new) ≡ length w
+    zeros_long = same_len_mid target (end - target) w new kept
+
+    pub turning_none : 0 < m → let v = put_mid target (end - target) w new in Turning m n k source target b w v 0 v
+    turning_none pos =
+        let v : List ℕ = put_mid target (end - target) w new in
+        let zero-at : (S : ℕ) → S < 2 ^ k → slots k target v 0 S ≡ 0 =
+        λ S h. ap (at v) (let z : target + (0 * 2 ^ k + S) ≡ target + S = omega arith in z) ∙ zeros-placed.inside S h in
+        record {
+          ready = zeroed d zeros-placed zeros_long;
+          zeros = zeros-placed;
+          as_lent = zeros_long;
+          long = refl;
+          kept = λ x h. refl;
+          filled = λ i S t h. let z : i ≡ 0 = omega arith in rw z (subst (λ (x : ℕ). x < m) (sym (zero-at S h)) pos);
+          same = turn_none m k (at b) (slots (suc k) source v) (slots k target v) zero-at;
+        }
 
 module _ {m n k source target size i : ℕ} {b lent w₀ w : List ℕ} (e : size ≡ 2 ^ k) (o : Turning m n k source target b lent w₀ i w) where
   -- where the turn reads and writes

@@ -9,7 +9,8 @@ ghost use Rattle.ranked_theory.specs.Rows.{Placed};
 ghost use Rattle.projection.specs.Places.{AddReady, sum_at, TurnReady, TurnMade};
 ghost use Rattle.projection.specs.Levels.{LevelReady, LevelMade, Ready};
 
-use pads::power_of_two;
+use pads::{clear, power_of_two};
+use pointwise::copy;
 use ranked_within::{multiply_within, rows_length};
 use residues::Modulus;
 use std::mem::swap;
@@ -63,7 +64,7 @@ fn next_level(
     ensures { LevelMade modulus.value n k source target b.now workspace.old workspace.new }
 {
     let size = power_of_two(k);
-    workspace[target..target + size].fill(0);
+    clear(size, &mut workspace[target..target + size]);
     for i in 0..n - k {
         let here = i * size;
         next_table(k, modulus, b, source + 2 * here, target + here, workspace);
@@ -85,12 +86,12 @@ pub fn projection_row(
     let size = power_of_two(n);
     let first = rows_length(n);
     let second = first + size;
-    workspace[first..second].copy_from_slice(a);
+    copy(a, &mut workspace[first..second]);
     let mut source = first;
     let mut target = second;
     for k in (0..n).rev() {
         next_level(n, k, modulus, b, source, target, workspace);
         swap(&mut source, &mut target);
     }
-    res.copy_from_slice(&workspace[source..source + res.len()]);
+    copy(&workspace[source..source + res.len()], res);
 }

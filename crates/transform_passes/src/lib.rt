@@ -45,12 +45,15 @@ pub struct Four {
 }
 
 // x and y + x: over all controls, the sums over subsets
+#[derive(Clone, Copy)]
 pub struct Zeta;
 
 // x and y - x, which takes these back
+#[derive(Clone, Copy)]
 pub struct Moebius;
 
 // x + y and x - y; made twice it multiplies by 2 for each control
+#[derive(Clone, Copy)]
 pub struct Walsh;
 
 impl Transform for Zeta {
@@ -264,7 +267,7 @@ pub fn convolve<There: Transform, Back: Transform>(
     requires b_len { length b.now ≡ length other.old }
     ensures { Transformed modulus.value Back.step n (products n modulus.value There.step a.now b.now) res.new }
 {
-    res.copy_from_slice(a);
-    other.copy_from_slice(b);
+    pointwise::copy(a, res);
+    pointwise::copy(b, other);
     convolve_in_place::<There, Back>(n, modulus, res, other);
 }

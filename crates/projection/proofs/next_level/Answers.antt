@@ -1,14 +1,17 @@
 use mathlib.Core.Path.{refl}
 use native.Mathlib.Omega.{arith}
-use Rattle.projection.proofs.Levels.{zeros_in, turning_none, turn_ready, turning_more, level_made}
+use Rattle.projection.proofs.Levels.{zeros_in, zeros_fit, turning_none, turn_ready, turning_more, level_made}
 use Rattle.projection.proofs.next_level.Goals as goal
 
-pub slice_bounds-fill-end : goal.slice_bounds-fill-end
-slice_bounds-fill-end c = zeros_in c.requires c.power_of_two-size.ensures refl
+pub slice_bounds-clear-end : goal.slice_bounds-clear-end
+slice_bounds-clear-end c = zeros_in c.requires c.power_of_two-size.ensures refl
+
+pub clear-requires : goal.clear-requires
+clear-requires c = zeros_fit c.requires c.power_of_two-size.ensures refl
 
 pub loop-i-init : goal.loop-i-init
-loop-i-init c = turning_none c.requires c.power_of_two-size.ensures refl (omega (arith, c.args.modulus.valid.lowest))
-    (c.fill.ensures.after (λ y e. e))
+loop-i-init c =
+    turning_none c.requires c.power_of_two-size.ensures refl c.clear.ensures c.clear.auto.workspace (omega (arith, c.args.modulus.valid.lowest))
 
 pub next_table-requires : goal.next_table-requires
 next_table-requires c = turn_ready c.power_of_two-size.ensures c.loop-i.invariant c.loop-i-test.true
