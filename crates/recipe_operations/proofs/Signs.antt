@@ -1,5 +1,5 @@
 -- The call of a sign on the table at a place and on the result: what each core is lent, and what is left.
-use mathlib.Core.Path.{◌≡◌, refl, sym, ◌∙◌, ap}
+use mathlib.Core.Path.{◌≡◌, refl, sym, ◌∙◌, ap, ap₂}
 use mathlib.Core.Bool.{false}
 use mathlib.Core.List.{List}
 use Prim.Native.Nat.{ℕ, zero, suc, ◌+◌, ◌-◌, ◌*◌, ◌%◌, ◌^◌, ◌<◌, ◌≤◌}
@@ -10,14 +10,14 @@ use lib.ListN.{length, take, drop}
 use borrow.Author.Tests.{eqb-false}
 use borrow.Rule.Slice.PartMut.{put_mid}
 use Rattle.definitions.specs.Limits.{pad_length}
-use Rattle.definitions.specs.Sums.{tabulate, at}
-use Rattle.definitions.specs.Products.{residues, subset_table, xor_table}
+use Rattle.definitions.specs.Sums.{at}
+use Rattle.definitions.specs.Products.{residues, sum_table, difference_table, subset_table, xor_table}
 use Rattle.definitions.specs.Refusals.{halving_word}
 use Rattle.definitions.specs.Outcomes.{Outcome, accepted}
 use Rattle.refusals.specs.Words.{word, word_of}
 use Rattle.refusals.specs.declared.Refusal.{Refusal}
 use Rattle.definitions.specs.Recipes.{plus, minus, times, union, xor, call_gives, sign_call}
-use Rattle.theory.specs.Lists.{tabulate_of, length-residues}
+use Rattle.theory.specs.Lists.{length-residues}
 use Rattle.theory.specs.Parts.{at_part}
 use Rattle.residues.specs.declared.Modulus.{Modulus}
 use Rattle.checks.specs.Words.{no_word}
@@ -30,8 +30,8 @@ use Rattle.transform_passes.specs.Steps.{zeta, moebius, walsh, Transformed, prod
 use Rattle.transform_passes.specs.Made.{union_made, xor_made}
 use Rattle.recipe_theory.specs.Values.{plus_gives, minus_gives, times_gives, union_gives, xor_gives}
 use Rattle.refusals.specs.Handed.{handed_word, never_accepts}
-use Rattle.recipe_operations.specs.Operands.{Operands, Saved, Done}
-use Rattle.recipe_operations.specs.Places.{part_size, table_by, saved}
+use Rattle.recipe_operations.specs.Operands.{Operands, PairReady, Saved, Done}
+use Rattle.recipe_operations.specs.Places.{part_size, table_by, same_table, saved}
 
 -- ---- a call that is done, and one that refuses
 
@@ -58,6 +58,21 @@ module _ {n : ℕ} {call : Outcome (List ℕ)} {place : ℕ} {result pad : List 
       → r ≡ Err refusal → Done n call place result pad (word_of r) result pad
   is_refused_on made test gives e h = is_refused made test gives (handed_word h ∙ e) (never_accepts h)
 
+-- ---- two tables side by side
+
+module _ {n : ℕ} {modulus : Modulus} {place : ℕ} {pad result : List ℕ} (h : PairReady n modulus place pad result) where
+  abbrev long : ℕ
+  long = length result
+
+  pub pair_inputs : Inputs modulus long (take ((place + long) - place) (drop place pad)) (take ((place + long + long) - (place + long)) (drop (place + long) pad))
+  pair_inputs = rw (h.long, part_size place (2 ^ n), part_size (place + 2 ^ n) (2 ^ n)) (record { first = h.left; second = h.right })
+
+  -- what is made of two parts is made of the two tables
+  pub pair_made : (rule : ℕ → List ℕ → List ℕ → List ℕ) {last : List ℕ}
+      → last ≡ rule long (take ((place + long) - place) (drop place pad)) (take ((place + long + long) - (place + long)) (drop (place + long) pad))
+      → last ≡ rule (2 ^ n) (table_at n place pad) (table_at n (place + 2 ^ n) pad)
+  pair_made rule e = rw (h.long, part_size place (2 ^ n), part_size (place + 2 ^ n) (2 ^ n)) at e
+
 -- ---- the operands
 
 module _ {n : ℕ} {modulus : Modulus} {place : ℕ} {result pad : List ℕ} (h : Operands n modulus place result pad) where
@@ -70,34 +85,36 @@ module _ {n : ℕ} {modulus : Modulus} {place : ℕ} {result pad : List ℕ} (h 
   range : InRange n m
   range = record { few = h.few; lowest = modulus.valid.lowest; largest = modulus.valid.largest }
 
-  -- ---- the table at the place, as it is lent
+  -- ---- the right one put behind the left one
 
-  abbrev part : List ℕ
-  part = take ((place + length result) - place) (drop place pad)
+  module _ {pad' : List ℕ} (kept : length pad' ≡ length pad) (s : Saved (place + length result) result pad pad') where
+    left_same : table_at n place pad' ≡ left
+    left_same =
+        same_table n place pad' (omega (arith, h.inside, kept)) pad (omega (arith, h.inside))
+        (λ x low high. s.before x (omega (arith, h.right.size)))
 
-  part_is : part ≡ left
-  part_is = ap (λ (k : ℕ). take k (drop place pad)) (part_size place (length result) ∙ h.right.size)
+    right_same : table_at n (place + 2 ^ n) pad' ≡ result
+    right_same = rw h.right.size at s.there
 
-  -- ---- entry by entry
+    pub pair_ready : PairReady n modulus place pad' result
+    pair_ready =
+        record {
+          left = rw left_same h.left;
+          right = rw right_same h.right;
+          long = h.right.size;
+          inside = omega (arith, h.inside, kept);
+        }
 
-  pub pair_inputs : Inputs modulus (length result) part result
-  pair_inputs = rw (h.right.size, part_size place (2 ^ n)) (record { first = h.left; second = h.right })
+    pair_rest : (x : ℕ) → pad_length n ≤ x → x < place → at pad' x ≡ at pad x
+    pair_rest x low high = s.before x (omega arith)
 
-  module _ (rule : ℕ → ℕ → ℕ) {last : List ℕ} (long : length last ≡ length result)
-      (made : (i : ℕ) → i < length result → at last i ≡ rule (at part i) (at result i)) where
-    entries_made : last ≡ tabulate (2 ^ n) (λ S. rule (at left S) (at result S))
-    entries_made =
-        tabulate_of (2 ^ n) last _ (long ∙ h.right.size)
-        (λ i k. made i (omega (arith, h.right.size)) ∙ ap (λ (l : List ℕ). rule (at l i) (at result i)) part_is)
+    pub added : {last : List ℕ} → last ≡ sum_table n m (table_at n place pad') (table_at n (place + 2 ^ n) pad')
+        → Done n (sign_call n m plus left result) place result pad 0 last pad'
+    added e = is_done (plus_gives range h.left h.right) (e ∙ ap₂ (sum_table n m) left_same right_same) pair_rest
 
-  module _ {last : List ℕ} (long : length last ≡ length result) where
-    pub added : ((i : ℕ) → i < length result → at last i ≡ (at part i + at result i) % m) → Done n (sign_call n m plus left result) place result pad 0 last pad
-    unfolding residues
-    added made = is_done (plus_gives range h.left h.right) (entries_made (λ x y. (x + y) % m) long made) (λ x low high. refl)
-
-    pub subtracted : ((i : ℕ) → i < length result → at last i ≡ (at part i + (m - at result i)) % m) → Done n (sign_call n m minus left result) place result pad 0 last pad
-    unfolding residues
-    subtracted made = is_done (minus_gives range h.left h.right) (entries_made (λ x y. (x + (m - y)) % m) long made) (λ x low high. refl)
+    pub subtracted : {last : List ℕ} → last ≡ difference_table n m (table_at n place pad') (table_at n (place + 2 ^ n) pad')
+        → Done n (sign_call n m minus left result) place result pad 0 last pad'
+    subtracted e = is_done (minus_gives range h.left h.right) (e ∙ ap₂ (difference_table n m) left_same right_same) pair_rest
 
   -- ---- the product inside the pad
 
@@ -120,6 +137,12 @@ module _ {n : ℕ} {modulus : Modulus} {place : ℕ} {result pad : List ℕ} (h 
       (λ x low high. w.rest x (omega (arith, rows_and_tables n)) (λ i c e. omega arith))
 
   -- ---- transforms at the place
+
+  abbrev part : List ℕ
+  part = take ((place + length result) - place) (drop place pad)
+
+  part_is : part ≡ left
+  part_is = ap (λ (k : ℕ). take k (drop place pad)) (part_size place (length result) ∙ h.right.size)
 
   pub both_ready : Ready n modulus part × Ready n modulus result
   both_ready = (

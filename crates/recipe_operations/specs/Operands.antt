@@ -32,3 +32,10 @@ pub record Done (n : ℕ) (call : Outcome (List ℕ)) (place : ℕ) (result pad 
   pub gives : call ≡ call_gives word result'
   pub kept : (word ≡ 0 → ⊥) → result' ≡ result
   pub rest : (x : ℕ) → pad_length n ≤ x → x < place → at pad' x ≡ at pad x
+
+-- two tables side by side, and a result as long
+pub record PairReady (n : ℕ) (modulus : Modulus) (place : ℕ) (pad result : List ℕ) : Type 0 where
+  pub left : IsTable n modulus.value (table_at n place pad)
+  pub right : IsTable n modulus.value (table_at n (place + 2 ^ n) pad)
+  pub long : length result ≡ 2 ^ n
+  pub inside : place + 2 * 2 ^ n ≤ length pad

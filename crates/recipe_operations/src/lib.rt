@@ -1,19 +1,18 @@
-// The calls of a recipe on tables in lent memory, by the cores that the public calls use (sum and difference need none): a sign on the
-// table at a place of the pad and on the result, a function on the result. Each leaves its table in the result. A part of a slice that
-// is written cannot be lent beside another, so a core that writes in the pad is given the result and one part of the pad. What must be
-// tested is tested before anything is written.
+// The calls of a recipe on tables in lent memory, by the cores that the public calls use: a sign on the table at a place of the pad and
+// on the result, a function on the result. Each leaves its table in the result. A part of a slice that is written cannot be lent beside
+// another, so a core that writes in the pad is given the result and one part of the pad. What must be tested is tested before anything
+// is written.
 #![tactic(auto)]
 
-ghost use Rattle.std.specs.Prelude.{◌≡◌, ℕ, ◌+◌, ◌<◌, ◌≤◌, length, take, drop};
-ghost use Rattle.definitions.specs.Sums.{at};
+ghost use Rattle.std.specs.Prelude.{◌≡◌, ◌+◌, ◌≤◌, length, take, drop};
 ghost use Rattle.definitions.specs.Recipes.{plus, minus, times, union, xor, exponential, logarithm, inverse, Choice, sign_call, opening_call};
 ghost use Rattle.refusals.specs.Words.{word_of};
-ghost use Rattle.pointwise.specs.Pairs.{Inputs};
 ghost use Rattle.ranked_within.specs.Within.{table_at};
 ghost use Rattle.recipe_operations.specs.Codes.{sign_of, opening_of};
 ghost use Rattle.recipe_operations.specs.Operands.{Operands, Operand, Done, Saved};
 
 use composition::take_result;
+use entrywise::{add_entries, subtract_entries};
 use exponential::exponential_table;
 use pads::pad_length;
 use pointwise::{copy, scale};
@@ -58,41 +57,26 @@ pub fn restore(place: usize, pad: &[u32], res: &mut [u32])
     copy(&pad[place..end], res);
 }
 
-// Each entry of the result by one operation on that of a table and its own.
-fn entry_by_entry<F: Fn(u32, u32) -> u32>(
-    modulus: Modulus,
-    table: &[u32],
-    res: &mut [u32],
-    operation: F,
-)
-    requires inputs { Inputs modulus (length res.old) table.now res.old }
-    requires callable { (x y : ℕ) → x < modulus.value → y < modulus.value → F.pre operation x y }
-    ensures res_len { length res.new ≡ length res.old }
-    ensures entries { (i : ℕ) → i < length res.old → F.post operation (at table.now i) (at res.old i) (at res.new i) }
+// The sum. The right operand is put behind the left one, so that the result is free for it.
+fn add_at(n: u32, modulus: Modulus, place: usize, res: &mut [u32], pad: &mut [u32])
+    requires { Operands n modulus place res.old pad.old }
+    ensures { Done n (sign_call n modulus.value plus (table_at n place pad.old) res.old) place res.old pad.old 0 res.new pad.new }
 {
-    for (i, entry) in res.iter_mut().enumerate() {
-        *entry = operation(table[i], *entry);
-    }
+    let behind = place + res.len();
+    save(behind, res, pad);
+    let end = behind + res.len();
+    add_entries(modulus, &pad[place..behind], &pad[behind..end], res);
 }
 
-// The sum, entry by entry.
-fn add_at(n: u32, modulus: Modulus, place: usize, res: &mut [u32], pad: &[u32])
-    requires { Operands n modulus place res.old pad.now }
-    ensures { Done n (sign_call n modulus.value plus (table_at n place pad.now) res.old) place res.old pad.now 0 res.new pad.now }
+// The difference, in the same way.
+fn subtract_at(n: u32, modulus: Modulus, place: usize, res: &mut [u32], pad: &mut [u32])
+    requires { Operands n modulus place res.old pad.old }
+    ensures { Done n (sign_call n modulus.value minus (table_at n place pad.old) res.old) place res.old pad.old 0 res.new pad.new }
 {
-    let end = place + res.len();
-    entry_by_entry(modulus, &pad[place..end], res, |x, y| modulus.add(x, y));
-}
-
-// The difference, entry by entry.
-fn subtract_at(n: u32, modulus: Modulus, place: usize, res: &mut [u32], pad: &[u32])
-    requires { Operands n modulus place res.old pad.now }
-    ensures { Done n (sign_call n modulus.value minus (table_at n place pad.now) res.old) place res.old pad.now 0 res.new pad.now }
-{
-    let end = place + res.len();
-    entry_by_entry(modulus, &pad[place..end], res, |x, y| {
-        modulus.subtract(x, y)
-    });
+    let behind = place + res.len();
+    save(behind, res, pad);
+    let end = behind + res.len();
+    subtract_entries(modulus, &pad[place..behind], &pad[behind..end], res);
 }
 
 // The subset product, worked at the place.
