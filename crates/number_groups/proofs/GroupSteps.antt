@@ -17,7 +17,7 @@ use Rattle.definitions.specs.Refusals.{word_if}
 use Rattle.definitions.specs.Groups.{Numeral, in_front, read_number}
 use Rattle.theory.specs.Tests.{zero_is_not_one, below_or}
 use Rattle.number_groups.specs.Numbers.{reads_none, reads_last, reads_more, reads_word}
-use Rattle.number_groups.specs.NumberAnswers.{ByteIs, NoByte, IsGroup, placed, outcome_of, next_of, in_front_of, ending_in, fifth_group, ReadsAt, ReadsBehind, cut_to32}
+use Rattle.number_groups.specs.NumberAnswers.{ByteIs, IsGroup, placed, outcome_of, next_of, in_front_of, ending_in, fifth_group, ReadsAt, ReadsBehind, cut_to32}
 use Rattle.number_groups.specs.declared.Group.{Group}
 use Rattle.number_groups.specs.declared.Numeral as code
 use Rattle.refusals.specs.declared.Refusal.{Refusal}
@@ -117,8 +117,8 @@ module _ (low scale : ℕ) (bytes : List ℕ) (at : ℕ) where
   none_there : length bytes ≤ at → and_then (read_number (drop at bytes)) (in_front_of low scale) ≡ refused 8
   none_there h = rw (drop_of_length-le bytes h, reads_none)
 
-  pub ends_early : {r : Result code.Numeral Refusal} {e : Refusal} → NoByte bytes at e → r ≡ Err e → ReadsBehind low scale bytes at r
-  ends_early none e = rw (e, none.is_group) (record { outcome = sym (none_there none.behind); within = omega arith })
+  pub ends_early : length bytes ≤ at → ReadsBehind low scale bytes at (Err refusal.Group)
+  ends_early h = record { outcome = sym (none_there h); within = omega arith }
 
   module _ {g : Group} (inside : at < length bytes) (group : IsGroup bytes at g) where
     ends_as : g.byte < 128 → and_then (read_number (drop at bytes)) (in_front_of low scale) ≡ outcome_of bytes (last_group low scale g)
@@ -181,8 +181,8 @@ module _ (bytes : List ℕ) (at : ℕ) where
   nothing_there : length bytes ≤ at → read_number (drop at bytes) ≡ refused 8
   nothing_there h = rw (drop_of_length-le bytes h) reads_none
 
-  pub no_group : {r : Result code.Numeral Refusal} {e : Refusal} → NoByte bytes at e → r ≡ Err e → ReadsAt bytes at r
-  no_group none e = rw (e, none.is_group) (record { outcome = sym (nothing_there none.behind); within = omega arith })
+  pub no_group : length bytes ≤ at → ReadsAt bytes at (Err refusal.Group)
+  no_group h = record { outcome = sym (nothing_there h); within = omega arith }
 
   module _ {g : Group} (inside : at < length bytes) (group : IsGroup bytes at g) where
     one_as : g.byte < 128 → read_number (drop at bytes) ≡ accepted (record { value = g.byte; rest = drop g.next bytes })

@@ -16,15 +16,6 @@ pub record ByteIs (bytes : List ℕ) (at byte : ℕ) : Type 0 where
   pub byte_is : byte ≡ get_or bytes at 0
   pub byte_small : byte < 256
 
--- behind the end no byte stands, and the word is 8
-pub record NoByte (bytes : List ℕ) (at : ℕ) (r : Refusal) : Type 0 where
-  pub behind : length bytes ≤ at
-  pub is_group : r ≡ refusal.Group
-
-abbrev pub ByteAt : List ℕ → ℕ → Result ℕ Refusal → Type 0
-ByteAt bytes at (Ok byte) = ByteIs bytes at byte
-ByteAt bytes at (Err r) = NoByte bytes at r
-
 -- the byte at a place, and the place behind it
 pub record IsGroup (bytes : List ℕ) (at : ℕ) (r : Group) : Type 0 where
   pub byte_is : r.byte ≡ get_or bytes at 0

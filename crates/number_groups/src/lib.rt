@@ -5,7 +5,7 @@
 ghost use Rattle.std.specs.Prelude.{◌≡◌, ◌+◌, ◌*◌, ◌^◌, ◌<◌, ◌≤◌, length, drop};
 ghost use Rattle.std.proofs.lemmas.List.Edits.{sets};
 ghost use Rattle.definitions.specs.Groups.{groups, read_number};
-ghost use Rattle.number_groups.specs.NumberAnswers.{ByteAt, IsGroup, ReadsAt, ReadsBehind, ending_in, fifth_group, Accepts, ReadsAgain, cut_to32};
+ghost use Rattle.number_groups.specs.NumberAnswers.{ByteIs, IsGroup, ReadsAt, ReadsBehind, ending_in, fifth_group, Accepts, ReadsAgain, cut_to32};
 
 use refusals::Refusal;
 
@@ -16,19 +16,22 @@ pub struct Numeral {
     pub next: usize,
 }
 
-// The byte at a place.
-fn byte_at(bytes: &[u8], at: usize) -> Result<u64, Refusal>
-    ensures { ByteAt bytes.now at result }
+// The byte at a place inside the bytes.
+fn byte_at(bytes: &[u8], at: usize) -> u64
+    requires { at < length bytes.now }
+    ensures { ByteIs bytes.now at result }
 {
-    let byte = *bytes.get(at).ok_or(Refusal::Group)?;
-    Ok(u64::from(byte))
+    u64::from(bytes[at])
 }
 
-// The number that stands at a place.
+// The number that stands at a place. Whether the bytes end is asked before each byte: a `Result` for each is slower.
 pub fn read_number(bytes: &[u8], at: usize) -> Result<Numeral, Refusal>
     ensures { ReadsAt bytes.now at result }
 {
-    let first = byte_at(bytes, at)?;
+    if bytes.len() <= at {
+        return Err(Refusal::Group);
+    }
+    let first = byte_at(bytes, at);
     let next = at + 1;
     if first < 128 {
         return Ok(Numeral {
@@ -44,26 +47,37 @@ fn read_groups(bytes: &[u8], at: usize, lowest: u64) -> Result<Numeral, Refusal>
     requires { lowest < 128 }
     ensures { ReadsBehind lowest 128 bytes.now at result }
 {
-    let second = byte_at(bytes, at)?;
+    if bytes.len() <= at {
+        return Err(Refusal::Group);
+    }
+    let second = byte_at(bytes, at);
     let third_at = at + 1;
     if second < 128 {
         return last_group(lowest + 128 * second, second, third_at);
     }
     let two = lowest + 128 * (second - 128);
-    let third = byte_at(bytes, third_at)?;
+    if bytes.len() <= third_at {
+        return Err(Refusal::Group);
+    }
+    let third = byte_at(bytes, third_at);
     let fourth_at = third_at + 1;
     if third < 128 {
         return last_group(two + 16384 * third, third, fourth_at);
     }
     let three = two + 16384 * (third - 128);
-    let fourth = byte_at(bytes, fourth_at)?;
+    if bytes.len() <= fourth_at {
+        return Err(Refusal::Group);
+    }
+    let fourth = byte_at(bytes, fourth_at);
     let fifth_at = fourth_at + 1;
     if fourth < 128 {
         return last_group(three + 2097152 * fourth, fourth, fifth_at);
     }
     let four = three + 2097152 * (fourth - 128);
-    let fifth = byte_at(bytes, fifth_at)?;
-    fifth_group(four, fifth, fifth_at + 1)
+    if bytes.len() <= fifth_at {
+        return Err(Refusal::Group);
+    }
+    fifth_group(four, byte_at(bytes, fifth_at), fifth_at + 1)
 }
 
 // A number by its last group, which is not 0, for then the form would not be the shortest.

@@ -42,13 +42,14 @@ pub fn test_pad(n: u32, found: usize) -> Result<(), Refusal>
 pub fn test_entries(m: u32, a: &[u32]) -> Result<(), Refusal>
     ensures { word_of result ≡ entry_word m a.now }
 {
-    let mut below = true;
+    // a number of 32 bits, as wide as an entry: with a bool the loop is a fifth slower
+    let mut large: u32 = 0;
     for x in a {
         if m <= *x {
-            below = false;
+            large = 1;
         }
     }
-    test(below, Refusal::Entry)
+    test(large == 0, Refusal::Entry)
 }
 
 // The entry at the empty set; 0 if there is none.
