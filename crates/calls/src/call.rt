@@ -63,7 +63,7 @@ impl Call {
 
     // Sum and difference read two tables, binomial product two rows, composition a table and a row; the second list of a call
     // of one table is not read.
-    pub(crate) fn run(
+    pub fn run(
         self,
         n: u32,
         m: u32,

@@ -5,7 +5,7 @@ use plain_sums::{Sum, add_up, differing};
 
 // A sum over two lists, and the list that it must be.
 struct Comparison<'a> {
-    sum: Sum,
+    sum: Option<Sum>,
     a: &'a [u32],
     b: &'a [u32],
     wanted: &'a [u32],
@@ -13,34 +13,30 @@ struct Comparison<'a> {
 
 // A sum over pairs or partitions is the result. An inverse is multiplied by its table, a logarithm put back by its exponential,
 // and a large exponential in what it must fulfil. What is put back is compared with the second table: the unit, or the one that
-// it came from.
-fn comparison_by<'a>(how: u8, outcome: &Outcome<'a>) -> Option<Comparison<'a>> {
+// it came from. With a word that begins otherwise there is no sum, and the result must be zeros.
+fn comparison_by<'a>(how: Option<u8>, outcome: &Outcome<'a>) -> Comparison<'a> {
     let Outcome { a, b, res, .. } = *outcome;
     let (sum, a, b, wanted) = match how {
-        b'd' => (Sum::DisjointPairs, a, b, res),
-        b'u' => (Sum::Unions, a, b, res),
-        b'x' => (Sum::SymmetricDifferences, a, b, res),
-        b'p' => (Sum::Partitions, a, b, res),
-        b'b' => (Sum::Compositions, a, b, res),
-        b's' => (Sum::Projections, a, b, res),
-        b'l' => (Sum::LowestBlocks, a, res, res),
-        b't' => (Sum::DisjointPairs, a, res, b),
-        b'e' => (Sum::Partitions, res, b, b),
-        b'f' => (Sum::LowestBlocks, res, b, b),
-        _ => return None,
+        Some(b'd') => (Some(Sum::DisjointPairs), a, b, res),
+        Some(b'u') => (Some(Sum::Unions), a, b, res),
+        Some(b'x') => (Some(Sum::SymmetricDifferences), a, b, res),
+        Some(b'p') => (Some(Sum::Partitions), a, b, res),
+        Some(b'b') => (Some(Sum::Compositions), a, b, res),
+        Some(b's') => (Some(Sum::Projections), a, b, res),
+        Some(b'l') => (Some(Sum::LowestBlocks), a, res, res),
+        Some(b't') => (Some(Sum::DisjointPairs), a, res, b),
+        Some(b'e') => (Some(Sum::Partitions), res, b, b),
+        Some(b'f') => (Some(Sum::LowestBlocks), res, b, b),
+        _ => (None, a, b, res),
     };
-    Some(Comparison { sum, a, b, wanted })
+    Comparison { sum, a, b, wanted }
 }
 
-// How many entries differ; with a word that begins otherwise, from zeros.
+// How many entries differ.
 pub fn directly(case: Case, outcome: &Outcome) -> usize {
     let mut room = [0; 4096];
     let sums = lines::first(&mut room, outcome.res.len());
-    match case.initial(8).and_then(|how| comparison_by(how, outcome)) {
-        Some(Comparison { sum, a, b, wanted }) => {
-            add_up(sum, case.modulus(), a, b, sums);
-            differing(sums, wanted)
-        }
-        None => differing(sums, outcome.res),
-    }
+    let Comparison { sum, a, b, wanted } = comparison_by(case.initial(8), outcome);
+    add_up(sum, case.modulus(), a, b, sums);
+    differing(sums, wanted)
 }

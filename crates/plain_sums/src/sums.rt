@@ -15,15 +15,16 @@ pub enum Sum {
     Projections,
 }
 
-// Of a table a and a table or row b, into zeros.
-pub fn add_up(sum: Sum, m: u32, a: &[u32], b: &[u32], sums: &mut [u32]) {
+// Of a table a and a table or row b, into zeros; with None they stay.
+pub fn add_up(sum: Option<Sum>, m: u32, a: &[u32], b: &[u32], sums: &mut [u32]) {
     match sum {
-        Sum::DisjointPairs => pair_table(disjoint, a, b, m, sums),
-        Sum::Unions => pair_table(|l, r| Some(l | r), a, b, m, sums),
-        Sum::SymmetricDifferences => pair_table(|l, r| Some(l ^ r), a, b, m, sums),
-        Sum::LowestBlocks => exponential_by_lowest(a, b, m, sums),
-        Sum::Partitions => exponential_table(a, m, sums),
-        Sum::Compositions => composition_table(a, b, m, sums),
-        Sum::Projections => projection_row(a, b, m, sums),
+        Some(Sum::DisjointPairs) => pair_table(disjoint, a, b, m, sums),
+        Some(Sum::Unions) => pair_table(|l, r| Some(l | r), a, b, m, sums),
+        Some(Sum::SymmetricDifferences) => pair_table(|l, r| Some(l ^ r), a, b, m, sums),
+        Some(Sum::LowestBlocks) => exponential_by_lowest(a, b, m, sums),
+        Some(Sum::Partitions) => exponential_table(a, m, sums),
+        Some(Sum::Compositions) => composition_table(a, b, m, sums),
+        Some(Sum::Projections) => projection_row(a, b, m, sums),
+        None => {}
     }
 }
