@@ -1,10 +1,7 @@
-use mathlib.Core.Path.{refl, sym}
+use mathlib.Core.Path.{refl}
 use native.Mathlib.Omega.{arith}
-use Rattle.projection.proofs.Levels.{table_fits, projecting_first, level_ready, projecting_more, row_in, row_fits, projected}
+use Rattle.projection.proofs.Levels.{projecting_first, level_ready, projecting_more, row_in, row_fits, projected}
 use Rattle.projection.proofs.projection_row.Goals as goal
-
-pub copy-requires : goal.copy-requires
-copy-requires c = sym (table_fits c.requires c.rows_length-first.ensures c.power_of_two-size.ensures refl)
 
 pub loop-k-init : goal.loop-k-init
 loop-k-init c = projecting_first c.requires c.rows_length-first.ensures c.power_of_two-size.ensures refl c.copy.ensures
